@@ -48,7 +48,8 @@ pub record IsLatching (v : Tracking) (queues : List Queue) (l : Latch) : Type 0 
   pub reserved : tail.signals.wants_event ≡ true → 0 < (queue_of queues tail.signals.client).reserved
 
 -- A latch is told: its commit has it, the commit's out-fence at its CRTC is signalled, and its event is delivered.
-pub record LatchIsTold (old new : Tracking) (old_fences new_fences : FenceSet) (old_queues new_queues : List Queue) (l : Latch) : Type 0 where
+pub record LatchIsTold (old new : Tracking) (old_fences new_fences : FenceSet) (old_queues new_queues : List Queue)
+    (l : Latch) : Type 0 where
   pub tracker : new ≡ marked old l.commit (mark.Latched l.crtc)
   pub fences :
       (x : Tail) → tail_of old l.commit ≡ Some x → new_fences ≡ with_signal old_fences (slice_index_or x.signals.out_fences l.crtc None)

@@ -23,7 +23,8 @@ use Rattle.kms_core.specs.Logs.{Reserved}
 use Rattle.kms_core.specs.Stands.{IsWorldOf}
 
 -- these stores stand for their parts of a machine, whose device has so many CRTCs
-pub record TellNeeds (t : Topology) (m : Machine) (made : Made) (present : Duplicates) (registers : RegisterFile) (tracker : Tracking) (crtcs : ℕ) : Type 0 where
+pub record TellNeeds (t : Topology) (m : Machine) (made : Made) (present : Duplicates) (registers : RegisterFile) (tracker : Tracking)
+    (crtcs : ℕ) : Type 0 where
   pub device : IsDevice t
   pub count : t.crtcs ≡ crtcs
   pub world : IsWorldOf t m.device.world made present

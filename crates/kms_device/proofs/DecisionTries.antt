@@ -101,7 +101,8 @@ not_ready t m r pair awaited = by (is_ready t m r) refl
     by : (b : Bool) → is_ready t m r ≡ b → b ≡ false
     by false is = refl
     by true is =
-        (let none : awaited_answer t m r ≡ None = first_some-none (λ crtc. with_object crtc (awaited_commit t m crtc)) (named t m.device.world r) (λ crtc is_in. none_at crtc (list_all-at _ (named t m.device.world r) crtc is is_in)) in
+        (let none : awaited_answer t m r ≡ None = first_some-none (λ crtc. with_object crtc (awaited_commit t m crtc))
+        (named t m.device.world r) (λ crtc is_in. none_at crtc (list_all-at _ (named t m.device.world r) crtc is is_in)) in
         let both : None ≡ Some pair = sym none ∙ awaited in absurd cc)
 
 and_no : (a b : Bool) → b ≡ false → (a && b) ≡ false

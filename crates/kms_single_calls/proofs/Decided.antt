@@ -142,11 +142,13 @@ module _ (r : Run) (c : RequestContext) (takes : HasTaken r c) (checked : Checke
         let above = ltb-false p 4 out in
         let below = ltb-true p 20 is in
         let within : p - 4 < 16 = omega (arith, above, below) in
-        rw (out, is) (held_of Plane (p - 4) within (same_there checked.states.planes (p - 4) ∙ states.planes (p - 4) within (rw (out, is) at has)))
+        rw (out, is) (held_of Plane (p - 4) within
+        (same_there checked.states.planes (p - 4) ∙ states.planes (p - 4) within (rw (out, is) at has)))
     by_plane out false is =
         let above = ltb-false p 20 is in
         let within : p - 20 < 8 = omega (arith, above, low) in
-        rw (out, is) (held_of Conn (p - 20) (omega (arith, within)) (same_there checked.states.conns (p - 20) ∙ states.conns (p - 20) within (rw (out, is) at has)))
+        rw (out, is) (held_of Conn (p - 20) (omega (arith, within))
+        (same_there checked.states.conns (p - 20) ∙ states.conns (p - 20) within (rw (out, is) at has)))
 
     by_crtc : (b : Bool) → nat_lt p 4 ≡ b → holds (machine r) c.client (object_at_place p) ≡ true
     by_crtc true is = (let below = ltb-true p 4 is in rw is (held_of Crtc p (omega (arith, below)) (same_there checked.states.crtcs p ∙ states.crtcs p below (rw is at has))))
@@ -154,7 +156,9 @@ module _ (r : Run) (c : RequestContext) (takes : HasTaken r c) (checked : Checke
 
 -- A request that is accepted, and one that is refused
 
-pub accepts : (r : Run) (c : RequestContext) (used : List (ℕ × Look)) (resolved : Resolved) (checked : Checked) → IsHistoryOf r → ContextsStand r.script (machine r) → HasTaken r c → AcceptedAs r.script.topology c.request used c.states checked resolved → HasStates checked → IsAccepted r c.ticket.0 used c.request resolved checked
+pub accepts : (r : Run) (c : RequestContext) (used : List (ℕ × Look)) (resolved : Resolved) (checked : Checked) → IsHistoryOf r
+    → ContextsStand r.script (machine r) → HasTaken r c → AcceptedAs r.script.topology c.request used c.states checked resolved
+    → HasStates checked → IsAccepted r c.ticket.0 used c.request resolved checked
 accepts r c used resolved checked is stand takes accepted states =
     let own = own_taker r c is stand takes in
     record {
@@ -219,13 +223,14 @@ module _ {E : Type 0} (r n : Run) (c : RequestContext) (used : List (ℕ × Look
         (subst (λ client. By client (step.Swap client)) own history)
 
 -- where states of what is touched are missing, there is no world that the look-ups and the states are of
-pub no_world : (r : Run) (c : RequestContext) (used : List (ℕ × Look)) (checked : Checked) (resolved : Resolved) → AcceptedAs r.script.topology c.request used c.states checked resolved → (HasStates checked → ⊥) → IsOfNoWorld r c used
+pub no_world : (r : Run) (c : RequestContext) (used : List (ℕ × Look)) (checked : Checked) (resolved : Resolved)
+    → AcceptedAs r.script.topology c.request used c.states checked resolved → (HasStates checked → ⊥) → IsOfNoWorld r c used
 no_world r c used checked resolved accepted lacks = record {
   resolved = resolved;
   asks = accepted.asks;
   none = λ w is.
       let all = accepted-states r.script.topology c.request used c.states checked resolved w accepted is in
-      lacks (record { states = all.states; crtcs = all.crtcs });
+      lacks all.states;
 }
 
 -- Look-ups of labels

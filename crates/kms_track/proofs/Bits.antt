@@ -25,11 +25,13 @@ same_index first i j =
     ]
 
 -- one bit more stands for one pair more
-pub bit_marked : (mask n first i j : ℕ) (there : Bool) → i < 32 → has_bit mask j ≡ there → has_bit (with_bit mask i) j ≡ (((n == n) && (first + i == first + j)) || there)
+pub bit_marked : (mask n first i j : ℕ) (there : Bool) → i < 32 → has_bit mask j ≡ there
+    → has_bit (with_bit mask i) j ≡ (((n == n) && (first + i == first + j)) || there)
 bit_marked mask n first i j there wide is =
     bit_more mask i j wide ∙ ap (λ b. (i == j) || b) is
     ∙ sym (ap (λ b. (b && (first + i == first + j)) || there) (eq-eqb n n refl) ∙ ap (λ b. b || there) (same_index first i j))
 
 -- a pair of another object changes nothing
 pub other_marked : (n object other : ℕ) (there : Bool) → (object ≡ other → ⊥) → there ≡ (((n == n) && (object == other)) || there)
-other_marked n object other there apart = sym (ap (λ b. (b && (object == other)) || there) (eq-eqb n n refl) ∙ ap (λ b. b || there) (ne_eqb object other apart))
+other_marked n object other there apart = sym
+    (ap (λ b. (b && (object == other)) || there) (eq-eqb n n refl) ∙ ap (λ b. b || there) (ne_eqb object other apart))

@@ -153,7 +153,8 @@ module _ (t : Topology) (c : Commit) (checked : Checked) (device : IsDevice t) (
       member_there test (count_of t kind) j mask (ap (λ m. has_bit m j) is ∙ has_bit-mask_below test (count_of t kind) j) has
 
   -- an object that is on a CRTC or on none is, before and after, on those that its duplicates say
-  on_routed : {S : Type 0} (kind : Kind) (j i mask : ℕ) (states : List (Option (Both S))) (crtc_of : S → ℕ) (sides : Option (Both S) → Sides) → is_some (get_or states j None) ≡ true → j < 100 → i < 4
+  on_routed : {S : Type 0} (kind : Kind) (j i mask : ℕ) (states : List (Option (Both S))) (crtc_of : S → ℕ)
+      (sides : Option (Both S) → Sides) → is_some (get_or states j None) ≡ true → j < 100 → i < 4
       → mask ≡ mask_below (λ index. touches_routed t c.world.things c.world.values (after c.world c.request) c.request.assigns (object_id kind index)) (count_of t kind) → has_bit mask j ≡ true
       → ((both : Both S) → sides (Some both) ≡ record { old = crtc_of both.old; new = crtc_of both.new })
       → ((object crtc : ℕ) → is_on_before_or_after kind c object crtc ≡ moves_on (old_values c) (new_values c) crtc object)

@@ -25,9 +25,11 @@ count_alike : (p q : ℕ → Bool) (n index : ℕ) → n ≤ index → ((i : ℕ
 unfolding count_below
 count_alike p q zero index above same = refl
 count_alike p q (suc n) index above same =
-    ap (λ m. m + one_if (q n)) (count_alike p q n index (omega (arith, above)) same) ∙ ap (λ b. count_below p n + one_if b) (same n (λ e. absurd (omega (arith, above, e))))
+    ap (λ m. m + one_if (q n)) (count_alike p q n index (omega (arith, above)) same)
+    ∙ ap (λ b. count_below p n + one_if b) (same n (λ e. absurd (omega (arith, above, e))))
 
-pub one_less : (p q : ℕ → Bool) (n index : ℕ) → index < n → p index ≡ true → q index ≡ false → ((i : ℕ) → i ≢ index → q i ≡ p i) → count_below q n + 1 ≡ count_below p n
+pub one_less : (p q : ℕ → Bool) (n index : ℕ) → index < n → p index ≡ true → q index ≡ false → ((i : ℕ) → i ≢ index → q i ≡ p i)
+    → count_below q n + 1 ≡ count_below p n
 unfolding count_below
 one_less p q zero index within was is same = absurd (omega (arith, within))
 one_less p q (suc n) index within was is same =

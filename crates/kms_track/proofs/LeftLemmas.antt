@@ -20,7 +20,8 @@ use Rattle.kms_track.proofs.Counts.{count_low, count_same, one_less}
 
 left_here : (asked over index : ℕ) → index < 32 → is_left asked (with_bit over index) index ≡ false
 left_here asked over index wide =
-    ap (λ b. has_bit asked index && not b) (bit_more over index index wide ∙ ap (λ b. b || has_bit over index) (eq-eqb index index refl)) ∙ off (has_bit asked index)
+    ap (λ b. has_bit asked index && not b) (bit_more over index index wide ∙ ap (λ b. b || has_bit over index) (eq-eqb index index refl))
+    ∙ off (has_bit asked index)
   where
     off : (b : Bool) → (b && false) ≡ false
     off true = refl
@@ -30,11 +31,14 @@ left_apart : (asked over index i : ℕ) → index < 32 → i ≢ index → is_le
 left_apart asked over index i wide apart =
     ap (λ b. has_bit asked i && not b) (bit_more over index i wide ∙ ap (λ b. b || has_bit over i) (ne_eqb index i (λ e. apart (sym e))))
 
-left_less : (asked over n index : ℕ) → n ≤ 32 → index < n → is_left asked over index ≡ true → count_below (is_left asked (with_bit over index)) n + 1 ≡ count_below (is_left asked over) n
+left_less : (asked over n index : ℕ) → n ≤ 32 → index < n → is_left asked over index ≡ true
+    → count_below (is_left asked (with_bit over index)) n + 1 ≡ count_below (is_left asked over) n
 left_less asked over n index few within was =
-    one_less (is_left asked over) (is_left asked (with_bit over index)) n index within was (left_here asked over index (omega (arith, few, within))) (λ i apart. left_apart asked over index i (omega (arith, few, within)) apart)
+    one_less (is_left asked over) (is_left asked (with_bit over index)) n index within was
+    (left_here asked over index (omega (arith, few, within))) (λ i apart. left_apart asked over index i (omega (arith, few, within)) apart)
 
-latch_less : (x : Tail) (index : ℕ) → index < 4 → is_latch_left x index ≡ true → count_below (is_latch_left (marked_tail (Latched index) x)) 4 + 1 ≡ count_below (is_latch_left x) 4
+latch_less : (x : Tail) (index : ℕ) → index < 4 → is_latch_left x index ≡ true
+    → count_below (is_latch_left (marked_tail (Latched index) x)) 4 + 1 ≡ count_below (is_latch_left x) 4
 latch_less x index within was =
     one_less (is_latch_left x) (is_latch_left (marked_tail (Latched index) x)) 4 index within was
     (ap (λ b. b && on_after x index) (left_here x.checked.named x.progress.latched index (omega (arith, within))))
@@ -48,15 +52,19 @@ of_not false is = refl
 pub step_less : (mark : Mark) (x : Tail) → IsMark mark → is_step_left mark x ≡ true → steps_left (marked_tail mark x) + 1 ≡ steps_left x
 step_less Claimed x is left = let one : one_if (not x.progress.claimed) ≡ 1 = ap (λ b. one_if b) left in omega (arith, one)
 step_less Done x is left = let one : one_if (not x.progress.done) ≡ 1 = ap (λ b. one_if b) left in omega (arith, one)
-step_less (WroteCrtc index) x is left = let less = left_less x.checked.touched.crtcs x.progress.crtcs 4 index (omega arith) is left in omega (arith, less)
-step_less (WrotePlane index) x is left = let less = left_less x.checked.touched.planes x.progress.planes 16 index (omega arith) is left in omega (arith, less)
-step_less (Flushed index) x is left = let less = left_less x.checked.named x.progress.flushed 4 index (omega arith) is left in omega (arith, less)
+step_less (WroteCrtc index) x is left = let less = left_less x.checked.touched.crtcs x.progress.crtcs 4 index
+    (omega arith) is left in omega (arith, less)
+step_less (WrotePlane index) x is left = let less = left_less x.checked.touched.planes x.progress.planes 16 index
+    (omega arith) is left in omega (arith, less)
+step_less (Flushed index) x is left = let less = left_less x.checked.named x.progress.flushed 4 index
+    (omega arith) is left in omega (arith, less)
 step_less (Latched index) x is left = let less = latch_less x index is left in omega (arith, less)
 
 -- a latch at a CRTC that is off
 pub latch_off : (x : Tail) (index : ℕ) → index < 4 → on_after x index ≡ false → steps_left (marked_tail (Latched index) x) ≡ steps_left x
 latch_off x index within off =
-    let same : count_below (is_latch_left (marked_tail (Latched index) x)) 4 ≡ count_below (is_latch_left x) 4 = count_same _ _ 4 (λ i. alike i) in omega (arith, same)
+    let same : count_below (is_latch_left (marked_tail (Latched index) x)) 4 ≡ count_below (is_latch_left x) 4 = count_same _ _ 4
+    (λ i. alike i) in omega (arith, same)
   where
     and_off : (a b c : Bool) → c ≡ false → (a && c) ≡ (b && c)
     and_off true true c is = refl
@@ -93,7 +101,8 @@ steps_some x = omega arith
 
 -- All commits
 
-pub left_marked : (slots : List (Slot Tail)) (k : ℕ) (x y : Tail) → IsRising slots → value_with_id slots k ≡ Some x → all_left (with_value slots k y) + steps_left x ≡ all_left slots + steps_left y
+pub left_marked : (slots : List (Slot Tail)) (k : ℕ) (x y : Tail) → IsRising slots → value_with_id slots k ≡ Some x
+    → all_left (with_value slots k y) + steps_left x ≡ all_left slots + steps_left y
 left_marked [] k x y rising is = absurd cc
 left_marked (s ∷ slots) k x y rising is =
     elim (eqb_tells s.id k) [
@@ -104,12 +113,14 @@ left_marked (s ∷ slots) k x y rising is =
           rw (same.0, ← rest, value) (omega arith)
           )
       | inr other ↦ (
-          let rest : all_left (with_value slots k y) + steps_left x ≡ all_left slots + steps_left y = left_marked slots k x y rising.1 (rw other.0 at is) in
+          let rest : all_left (with_value slots k y) + steps_left x ≡ all_left slots + steps_left y = left_marked slots k x y
+          rising.1 (rw other.0 at is) in
           rw other.0 (omega (arith, rest))
           )
     ]
 
-pub left_removed : (slots : List (Slot Tail)) (k : ℕ) (x : Tail) → IsRising slots → value_with_id slots k ≡ Some x → all_left (without_id slots k) + steps_left x ≡ all_left slots
+pub left_removed : (slots : List (Slot Tail)) (k : ℕ) (x : Tail) → IsRising slots → value_with_id slots k ≡ Some x
+    → all_left (without_id slots k) + steps_left x ≡ all_left slots
 left_removed [] k x rising is = absurd cc
 left_removed (s ∷ slots) k x rising is =
     elim (eqb_tells s.id k) [
@@ -129,20 +140,28 @@ pub left_pushed : (slots : List (Slot Tail)) (s : Slot Tail) → all_left (slots
 left_pushed [] s = omega (arith, steps_few s.value)
 left_pushed (t ∷ slots) s = omega (arith, left_pushed slots s)
 
-pub marked_left : (slots : List (Slot Tail)) (k : ℕ) (mark : Mark) → IsRising slots → IsMark mark → (x : Tail) → value_with_id slots k ≡ Some x → is_step_left mark x ≡ true → all_left (marked_slots slots k mark (value_with_id slots k)) + 1 ≡ all_left slots
+pub marked_left : (slots : List (Slot Tail)) (k : ℕ) (mark : Mark) → IsRising slots → IsMark mark → (x : Tail)
+    → value_with_id slots k ≡ Some x → is_step_left mark x ≡ true
+    → all_left (marked_slots slots k mark (value_with_id slots k)) + 1 ≡ all_left slots
 marked_left slots k mark rising allowed x is left =
-    let all : all_left (with_value slots k (marked_tail mark x)) + steps_left x ≡ all_left slots + steps_left (marked_tail mark x) = left_marked slots k x (marked_tail mark x) rising is in
+    let all : all_left (with_value slots k (marked_tail mark x)) + steps_left x ≡ all_left slots + steps_left
+    (marked_tail mark x) = left_marked slots k x (marked_tail mark x) rising is in
     let one : steps_left (marked_tail mark x) + 1 ≡ steps_left x = step_less mark x allowed left in
     rw is (omega (arith, all, one))
 
-latched_off_left : (slots : List (Slot Tail)) (k index : ℕ) → IsRising slots → index < 4 → (x : Tail) → value_with_id slots k ≡ Some x → on_after x index ≡ false → all_left (marked_slots slots k (Latched index) (value_with_id slots k)) ≡ all_left slots
+latched_off_left : (slots : List (Slot Tail)) (k index : ℕ) → IsRising slots → index < 4 → (x : Tail) → value_with_id slots k ≡ Some x
+    → on_after x index ≡ false → all_left (marked_slots slots k (Latched index) (value_with_id slots k)) ≡ all_left slots
 latched_off_left slots k index rising within x is off =
-    let all : all_left (with_value slots k (marked_tail (Latched index) x)) + steps_left x ≡ all_left slots + steps_left (marked_tail (Latched index) x) = left_marked slots k x (marked_tail (Latched index) x) rising is in
+    let all : all_left (with_value slots k (marked_tail (Latched index) x)) + steps_left x ≡ all_left slots + steps_left
+    (marked_tail (Latched index) x) = left_marked slots k x (marked_tail (Latched index) x) rising is in
     let same : steps_left (marked_tail (Latched index) x) ≡ steps_left x = latch_off x index within off in
     rw is (omega (arith, all, same))
 
-pub marked_off : (slots : List (Slot Tail)) (k : ℕ) (mark : Mark) → IsRising slots → IsMark mark → (x : Tail) → value_with_id slots k ≡ Some x → is_latch_off mark x ≡ true → all_left (marked_slots slots k mark (value_with_id slots k)) ≡ all_left slots
-marked_off slots k (Latched index) rising within x is off = latched_off_left slots k index rising within x is (of_not (on_after x index) off)
+pub marked_off : (slots : List (Slot Tail)) (k : ℕ) (mark : Mark) → IsRising slots → IsMark mark → (x : Tail)
+    → value_with_id slots k ≡ Some x → is_latch_off mark x ≡ true
+    → all_left (marked_slots slots k mark (value_with_id slots k)) ≡ all_left slots
+marked_off slots k (Latched index) rising within x is off = latched_off_left slots k index rising within x is
+    (of_not (on_after x index) off)
 marked_off slots k Claimed rising allowed x is off = absurd (false≢true off)
 marked_off slots k Done rising allowed x is off = absurd (false≢true off)
 marked_off slots k (WroteCrtc index) rising allowed x is off = absurd (false≢true off)
@@ -154,6 +173,7 @@ left_most [] = omega arith
 left_most (s ∷ slots) = omega (arith, steps_few s.value, left_most slots)
 
 -- 31 for each tail, where there is a place for that number
-pub most_kept : (slots : List (Slot Tail)) (o : Option ℕ) (n : ℕ) (P : Type 0) → SomeIff o P (n * 31) → n ≡ length slots → IfSome o (λ most. all_left slots ≤ most)
+pub most_kept : (slots : List (Slot Tail)) (o : Option ℕ) (n : ℕ) (P : Type 0) → SomeIff o P (n * 31) → n ≡ length slots
+    → IfSome o (λ most. all_left slots ≤ most)
 most_kept slots None n P is same = tt
 most_kept slots (Some most) n P is same = let left = left_most slots in let all = is.1 in omega (arith, left, all, same)

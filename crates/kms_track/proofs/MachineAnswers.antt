@@ -199,7 +199,8 @@ both_tests : (a b : Bool) (x : Option (ObjId × ℕ)) → (if a then (if b then 
 both_tests true b x = refl
 both_tests false b x = refl
 
-pub chosen : (object : ℕ) (b : Bool) (o : Option ℕ) → with_object object (if b then o else None) ≡ (if b then with_object object o else None)
+pub chosen : (object : ℕ) (b : Bool) (o : Option ℕ)
+    → with_object object (if b then o else None) ≡ (if b then with_object object o else None)
 chosen object true o = refl
 chosen object false o = refl
 

@@ -66,7 +66,8 @@ module _ (t : Topology) (cs : List Commit) (marks : Marks) (latches : List Latch
     apart : (k : ℕ) → (n == k) ≡ false → SameDone marks others latches more k
 
   module _ (v : Tracking) (n : ℕ) (within : n < length cs) (stand : IsTrackerOf t cs marks latches v) where
-    stands : (others : Marks) (more : List Latch) (mark : Mark) → Changes others more n mark → IsTrackerOf t cs others more (marked v n mark)
+    stands : (others : Marks) (more : List Latch) (mark : Mark) → Changes others more n mark
+        → IsTrackerOf t cs others more (marked v n mark)
     stands others more mark change = record {
       count = stand.count;
       rising = marked_rises v.tails.slots n mark (tail_of v n) stand.rising;
@@ -250,11 +251,13 @@ module _ (t : Topology) (cs : List Commit) (marks : Marks) (latches : List Latch
                 )
             | inr other ↦ (
                 let left : tail_of w k ≡ tail_of v k = rw is (value_left v.tails.slots n k other.0) in
-                rw left (kept_same t cs marks (record marks { cleaned = n ∷ marks.cleaned }) latches latches k (tail_of v k) (others k other.0) (stand.kept k low))
+                rw left (kept_same t cs marks (record marks { cleaned = n ∷ marks.cleaned }) latches latches k (tail_of v k)
+                (others k other.0) (stand.kept k low))
                 )
           ];
       untouched = λ k above.
-          untouched_same t cs marks (record marks { cleaned = n ∷ marks.cleaned }) latches latches k (others k (apart_from n k (omega (arith, within, above))))
+          untouched_same t cs marks (record marks { cleaned = n ∷ marks.cleaned }) latches latches k
+          (others k (apart_from n k (omega (arith, within, above))))
           (stand.untouched k above);
     } where
       still : IsOver t cs marks latches n → IsOver t cs (record marks { cleaned = n ∷ marks.cleaned }) latches n

@@ -140,11 +140,13 @@ none_awaited t m crtc =
     ∙ (ap (λ b. b && is_none (unless (is_cleaned m.device) second)) (none_marked (is_hw_done m.device) last)
     ∙ ap (λ b. if_there (is_hw_done m.device) last && b) (none_marked (is_cleaned m.device) second)))
 
-none_first : (t : Topology) (m : Machine) (xs : List ℕ) → is_none (first_some (λ crtc. with_object crtc (awaited_commit t m crtc)) xs) ≡ list_all (is_ready_at t m) xs
+none_first : (t : Topology) (m : Machine) (xs : List ℕ)
+    → is_none (first_some (λ crtc. with_object crtc (awaited_commit t m crtc)) xs) ≡ list_all (is_ready_at t m) xs
 none_first t m [] = refl
 none_first t m (x ∷ xs) =
     none_either (with_object x (awaited_commit t m x)) (first_some (λ crtc. with_object crtc (awaited_commit t m crtc)) xs)
-    ∙ (ap (λ b. b && is_none (first_some (λ crtc. with_object crtc (awaited_commit t m crtc)) xs)) (none_awaited t m x) ∙ ap (λ b. is_ready_at t m x && b) (none_first t m xs))
+    ∙ (ap (λ b. b && is_none (first_some (λ crtc. with_object crtc (awaited_commit t m crtc)) xs)) (none_awaited t m x)
+    ∙ ap (λ b. is_ready_at t m x && b) (none_first t m xs))
 
 -- `not_yet` answers none exactly where the CRTCs that a request names are ready for its swap.
 pub not_yet_machine : (t : Topology) (m : Machine) (v : Tracking) (r : Request) → IsInStep t m v → IsWithinPlaces t → is_none (not_yet_of v (named_by t m.device.world r)) ≡ steps.is_ready t m r

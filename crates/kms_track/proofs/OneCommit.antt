@@ -40,7 +40,8 @@ abbrev pub one : Topology
 one = record { profile = 1; crtcs = 1; planes = record { kind = 1; crtcs = 1; formats = 1 } ∷ []; conns = 1 ∷ [] }
 
 abbrev pub turns_off : Request
-turns_off = record { flags = PAGE_FLIP_EVENT; user_data = 9; assigns = record { kind = kind.Crtc; index = 0; prop = Known ACTIVE; value = value.Num (pos 0) } ∷ [] }
+turns_off = record { flags = PAGE_FLIP_EVENT; user_data = 9;
+    assigns = record { kind = kind.Crtc; index = 0; prop = Known ACTIVE; value = value.Num (pos 0) } ∷ [] }
 
 abbrev pub commit : Commit
 commit = record { client = 1; command = 1; request = turns_off; world = start one }
@@ -78,7 +79,8 @@ touches_it : checked.touched ≡ touched_by one (start one) turns_off
 unfolding on_machines mask_below
 touches_it = refl
 
-only_first : (i : ℕ) (both : Both CrtcState) → slice_get checked.states.crtcs i ≡ Some (Some both) → (i ≡ 0) × (both ≡ record { old = off; new = off })
+only_first : (i : ℕ) (both : Both CrtcState) → slice_get checked.states.crtcs i ≡ Some (Some both)
+    → (i ≡ 0) × (both ≡ record { old = off; new = off })
 only_first zero both is = (refl, cc)
 only_first (suc zero) both is = absurd cc
 only_first (suc (suc zero)) both is = absurd cc
@@ -88,12 +90,14 @@ only_first (suc (suc (suc (suc i)))) both is = absurd cc
 is_checked : IsChecked one commit.world commit.request checked
 is_checked = record {
   old = record {
-    crtcs = λ i both is. (let first = only_first i both is in ap (λ (b : Both CrtcState). b.old) first.1 ∙ sym old_off ∙ ap (λ j. crtc_state_at one (start one).things (start one).values (object_id kind.Crtc j)) (sym first.0));
+    crtcs = λ i both is. (let first = only_first i both is in ap (λ (b : Both CrtcState). b.old) first.1 ∙ sym old_off
+        ∙ ap (λ j. crtc_state_at one (start one).things (start one).values (object_id kind.Crtc j)) (sym first.0));
     planes = λ i both is. absurd (nothing_there 16 i both is);
     conns = λ i both is. absurd (nothing_there 8 i both is);
   };
   new = record {
-    crtcs = λ i both is. (let first = only_first i both is in ap (λ (b : Both CrtcState). b.new) first.1 ∙ sym new_off ∙ ap (λ j. crtc_state_at one (start one).things (after (start one) turns_off) (object_id kind.Crtc j)) (sym first.0));
+    crtcs = λ i both is. (let first = only_first i both is in ap (λ (b : Both CrtcState). b.new) first.1 ∙ sym new_off
+        ∙ ap (λ j. crtc_state_at one (start one).things (after (start one) turns_off) (object_id kind.Crtc j)) (sym first.0));
     planes = λ i both is. absurd (nothing_there 16 i both is);
     conns = λ i both is. absurd (nothing_there 8 i both is);
   };

@@ -46,7 +46,8 @@ first_stands t = record {
 }
 
 pub room_stands : (t : Topology) (cs : List Commit) (marks : Marks) (latches : List Latch) (v w : Tracking)
-    → w.count ≡ v.count → w.lasts ≡ v.lasts → w.tails.slots ≡ v.tails.slots → IsTrackerOf t cs marks latches v → IsTrackerOf t cs marks latches w
+    → w.count ≡ v.count → w.lasts ≡ v.lasts → w.tails.slots ≡ v.tails.slots → IsTrackerOf t cs marks latches v
+    → IsTrackerOf t cs marks latches w
 room_stands t cs marks latches v w count lasts is stand = record {
   count = count ∙ stand.count;
   rising = rw is stand.rising;
@@ -139,7 +140,8 @@ module _ (t : Topology) (c : Commit) (cs : List Commit) (marks : Marks) (latches
               )
           | inr other ↦ (
               let before : k < length cs = omega (arith, low, other.1) in
-              rw (tail_is k, other.0, or_nothing (tail_of v k)) (kept_older t c cs marks latches k (tail_of v k) before (stand.kept k before))
+              rw (tail_is k, other.0, or_nothing (tail_of v k))
+              (kept_older t c cs marks latches k (tail_of v k) before (stand.kept k before))
               )
         ];
     untouched = λ k above. stand.untouched k (omega (arith, above));

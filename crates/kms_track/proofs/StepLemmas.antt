@@ -82,24 +82,32 @@ finds_none p (x ∷ xs) none = rw (none x) (finds_none p xs none)
 
 flushes_none : (t : Topology) (d : DeviceState) (k : ℕ) → length d.commits ≤ k → next_flush t d k ≡ None
 unfolding next_flush
-flushes_none t d k above = finds_none (λ crtc. commit_names t d.commits k crtc && not (has_pair d.marks.flushed k crtc)) (ids_of t Crtc) (λ crtc. and_off _ _ (names_none t d.commits k crtc above))
+flushes_none t d k above = finds_none (λ crtc. commit_names t d.commits k crtc && not (has_pair d.marks.flushed k crtc)) (ids_of t Crtc)
+    (λ crtc. and_off _ _ (names_none t d.commits k crtc above))
 
-pub legal_below : (s : Script) (m : Machine) (step : Step) (k : ℕ) (v : Tracking) → commit_of_tail_step step ≡ Some k → legal s m step ≡ true → IsInStep s.topology m v → k < length m.device.commits
+pub legal_below : (s : Script) (m : Machine) (step : Step) (k : ℕ) (v : Tracking) → commit_of_tail_step step ≡ Some k
+    → legal s m step ≡ true → IsInStep s.topology m v → k < length m.device.commits
 unfolding legal may may_claim
 legal_below s m (Claim n) k v of is stands =
     let same : n ≡ k = cc in
-    rw (← same) (ltb-true n (length m.device.commits) (and_parts (nat_lt n (length m.device.commits)) _ (and_parts (not m.stalled) _ is).1).0)
+    rw (← same) (ltb-true n (length m.device.commits)
+    (and_parts (nat_lt n (length m.device.commits)) _ (and_parts (not m.stalled) _ is).1).0)
 legal_below s m (Write n kind index) k v of is stands =
-    let same : n ≡ k = cc in rw (← same) (claimed_below s.topology m n v stands (and_parts (is_claimed m.device n) _ (and_parts (not m.stalled) _ is).1).0)
+    let same : n ≡ k = cc in rw (← same)
+    (claimed_below s.topology m n v stands (and_parts (is_claimed m.device n) _ (and_parts (not m.stalled) _ is).1).0)
 legal_below s m (Flush n kind index) k v of is stands =
     let same : n ≡ k = cc in
     let flushes : has_value (object_id kind index) (next_flush s.topology m.device n) ≡ true =
-    (and_parts (exists s.topology kind index) _ (and_parts (is_all_written s.topology m.device n) _ (and_parts (not m.stalled) _ is).1).1).1 in
-    rw (← same) (where_below s.topology m n v stands (has_value (object_id kind index) (next_flush s.topology m.device n)) flushes (λ above. ap (has_value (object_id kind index)) (flushes_none s.topology m.device n above)))
+    (and_parts (exists s.topology kind index) _
+    (and_parts (is_all_written s.topology m.device n) _ (and_parts (not m.stalled) _ is).1).1).1 in
+    rw (← same) (where_below s.topology m n v stands (has_value (object_id kind index) (next_flush s.topology m.device n)) flushes
+    (λ above. ap (has_value (object_id kind index)) (flushes_none s.topology m.device n above)))
 legal_below s m (HwDone n) k v of is stands =
-    let same : n ≡ k = cc in rw (← same) (claimed_below s.topology m n v stands (and_parts (is_claimed m.device n) _ (and_parts (not m.stalled) _ is).1).0)
+    let same : n ≡ k = cc in rw (← same)
+    (claimed_below s.topology m n v stands (and_parts (is_claimed m.device n) _ (and_parts (not m.stalled) _ is).1).0)
 legal_below s m (Cleanup n) k v of is stands =
-    let same : n ≡ k = cc in rw (← same) (done_below s.topology m n v stands (and_parts (is_hw_done m.device n) _ (and_parts (not m.stalled) _ is).1).0)
+    let same : n ≡ k = cc in rw (← same)
+    (done_below s.topology m n v stands (and_parts (is_hw_done m.device n) _ (and_parts (not m.stalled) _ is).1).0)
 legal_below s m (Begin client) k v of is stands = absurd cc
 legal_below s m (Lock client kind index) k v of is stands = absurd cc
 legal_below s m (BackOff client) k v of is stands = absurd cc

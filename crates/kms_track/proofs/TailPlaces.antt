@@ -35,19 +35,22 @@ le_false : (a b : ℕ) → b < a → nat_le a b ≡ false
 le_false a b less = grind (arith, tests)
 
 -- the number at the place is the first from one on
-pub found_from : (slots : List (Slot Tail)) (i from : ℕ) → ((k : ℕ) → k < i → k < length slots → get_or (slot_ids slots) k 0 < from) → ((k : ℕ) → i ≤ k → k < length slots → from ≤ get_or (slot_ids slots) k 0)
+pub found_from : (slots : List (Slot Tail)) (i from : ℕ) → ((k : ℕ) → k < i → k < length slots → get_or (slot_ids slots) k 0 < from)
+    → ((k : ℕ) → i ≤ k → k < length slots → from ≤ get_or (slot_ids slots) k 0)
     → first_from slots from ≡ option_map (λ s. s.id) (slice_get slots i)
 found_from [] i from below above = refl
 found_from (s ∷ slots) zero from below above = rw (le_true from s.id (above 0 (omega arith) (omega arith))) refl
 found_from (s ∷ slots) (suc i) from below above =
     rw (le_false from s.id (below 0 (omega arith) (omega arith)))
-    (found_from slots i from (λ k low within. below (suc k) (omega (arith, low)) (omega (arith, within))) (λ k high within. above (suc k) (omega (arith, high)) (omega (arith, within))))
+    (found_from slots i from (λ k low within. below (suc k) (omega (arith, low)) (omega (arith, within)))
+    (λ k high within. above (suc k) (omega (arith, high)) (omega (arith, within))))
 
 -- The first number that has a tail
 
 abbrev pub IsFirstOf : List (Slot Tail) → ℕ → Option ℕ → Type 0
 IsFirstOf slots from None = (j : ℕ) → from ≤ j → value_with_id slots j ≡ None
-IsFirstOf slots from (Some k) = (from ≤ k) × (is_some (value_with_id slots k) ≡ true) × ((j : ℕ) → from ≤ j → j < k → value_with_id slots j ≡ None)
+IsFirstOf slots from (Some k) = (from ≤ k) × (is_some (value_with_id slots k) ≡ true) ×
+    ((j : ℕ) → from ≤ j → j < k → value_with_id slots j ≡ None)
 
 others_above : (j n : ℕ) (slots : List (Slot Tail)) → j ≤ n → AllByRecursion (λ s. n < s.id) slots → AreOther j slots
 others_above j n [] low above = tt
@@ -59,7 +62,8 @@ first_is (s ∷ slots) from rising =
     elim (cases_lt s.id from) [
       | inl less ↦ rw (le_false from s.id less) (behind (first_from slots from) less (first_is slots from rising.1))
       | inr here ↦ rw (le_true from s.id here)
-          (here, rw (eq-eqb s.id s.id refl) refl, λ j above low. rw (ne_eqb s.id j (λ e. absurd (omega (arith, low, e)))) (value-absent slots j (others_above j s.id slots (omega (arith, low)) rising.0)))
+          (here, rw (eq-eqb s.id s.id refl) refl, λ j above low. rw (ne_eqb s.id j (λ e. absurd (omega (arith, low, e))))
+          (value-absent slots j (others_above j s.id slots (omega (arith, low)) rising.0)))
     ]
   where
     behind : (o : Option ℕ) → s.id < from → IsFirstOf slots from o → IsFirstOf (s ∷ slots) from o
@@ -120,11 +124,14 @@ ids_rise slots rising i j d before within =
 abbrev pub IsPlaceOf : List (Slot Tail) → ℕ → ℕ → Type 0
 IsPlaceOf slots id i = IsPartitionPoint (λ (s : Slot Tail). ltb s.id id ≡ true) (λ (s : Slot Tail). ltb s.id id ≡ false) slots i
 
-pub below_place : (slots : List (Slot Tail)) (id i k : ℕ) → IsPlaceOf slots id i → i ≤ length slots → k < i → get_or (slot_ids slots) k 0 < id
+pub below_place : (slots : List (Slot Tail)) (id i k : ℕ) → IsPlaceOf slots id i → i ≤ length slots → k < i
+    → get_or (slot_ids slots) k 0 < id
 below_place [] id i k point bound low = absurd (omega (arith, bound, low))
-below_place (s ∷ slots) id i k point bound low = rw (from_place (s ∷ slots) k s (omega (arith, bound, low))) (ltb-true _ _ (point.0 k s (omega arith) low))
+below_place (s ∷ slots) id i k point bound low = rw (from_place (s ∷ slots) k s (omega (arith, bound, low)))
+    (ltb-true _ _ (point.0 k s (omega arith) low))
 
-pub from_place_on : (slots : List (Slot Tail)) (id i k : ℕ) → IsPlaceOf slots id i → i ≤ k → k < length slots → id ≤ get_or (slot_ids slots) k 0
+pub from_place_on : (slots : List (Slot Tail)) (id i k : ℕ) → IsPlaceOf slots id i → i ≤ k → k < length slots
+    → id ≤ get_or (slot_ids slots) k 0
 from_place_on [] id i k point high within = absurd (omega (arith, within))
 from_place_on (s ∷ slots) id i k point high within = rw (from_place (s ∷ slots) k s within) (ltb-false _ _ (point.1 k s high within))
 
@@ -134,10 +141,12 @@ pub record AreFrom (slots : List (Slot Tail)) (i from : ℕ) : Type 0 where
   pub below : (k : ℕ) → k < i → get_or (slot_ids slots) k 0 < from
   pub above : (k : ℕ) → i ≤ k → k < length slots → from ≤ get_or (slot_ids slots) k 0
 
-pub are_from : (slice slots : List (Slot Tail)) (i from : ℕ) → slice ≡ slots → ((k : ℕ) → k < i → get_or (slot_ids slice) k 0 < from) → ((k : ℕ) → i ≤ k → k < length slice → from ≤ get_or (slot_ids slice) k 0) → AreFrom slots i from
+pub are_from : (slice slots : List (Slot Tail)) (i from : ℕ) → slice ≡ slots → ((k : ℕ) → k < i → get_or (slot_ids slice) k 0 < from)
+    → ((k : ℕ) → i ≤ k → k < length slice → from ≤ get_or (slot_ids slice) k 0) → AreFrom slots i from
 are_from slice slots i from is below above = subst (λ xs. AreFrom xs i from) is (record { below = below; above = above })
 
-pub first_there : (slice slots : List (Slot Tail)) (i from : ℕ) (s : Slot Tail) → slice ≡ slots → AreFrom slots i from → true ≡ nat_lt i (length slice) → s ≡ get_or slice i s → Some s.id ≡ first_from slots from
+pub first_there : (slice slots : List (Slot Tail)) (i from : ℕ) (s : Slot Tail) → slice ≡ slots → AreFrom slots i from
+    → true ≡ nat_lt i (length slice) → s ≡ get_or slice i s → Some s.id ≡ first_from slots from
 first_there slice slots i from s same at there is =
     let low : i < length slots = ltb-true i (length slots) (sym (there ∙ ap (λ (xs : List (Slot Tail)). nat_lt i (length xs)) same)) in
     let here : s ≡ get_or slots i s = is ∙ ap (λ (xs : List (Slot Tail)). get_or xs i s) same in
@@ -147,14 +156,17 @@ first_there slice slots i from s same at there is =
     ∙ ap (λ (u : Slot Tail). Some u.id) (sym here)
     )
 
-pub first_gone : (slice slots : List (Slot Tail)) (i from : ℕ) → slice ≡ slots → AreFrom slots i from → false ≡ nat_lt i (length slice) → None ≡ first_from slots from
+pub first_gone : (slice slots : List (Slot Tail)) (i from : ℕ) → slice ≡ slots → AreFrom slots i from → false ≡ nat_lt i (length slice)
+    → None ≡ first_from slots from
 first_gone slice slots i from same at gone =
     let past : length slots ≤ i = ltb-false i (length slots) (sym (gone ∙ ap (λ (xs : List (Slot Tail)). nat_lt i (length xs)) same)) in
-    sym (found_from slots i from (λ k less within. at.below k less) at.above ∙ ap (λ (o : Option (Slot Tail)). option_map (λ (u : Slot Tail). u.id) o) (slice_get_past slots i past))
+    sym (found_from slots i from (λ k less within. at.below k less) at.above
+    ∙ ap (λ (o : Option (Slot Tail)). option_map (λ (u : Slot Tail). u.id) o) (slice_get_past slots i past))
 
 -- The tail at a place is marked
 
-pub marked_at : (slots : List (Slot Tail)) (i id : ℕ) (s : Slot Tail) (mark : Mark) (p : Progress) → IsRising slots → i < length slots → get_or (slot_ids slots) i 0 ≡ id → s ≡ get_or slots i s → p ≡ with_mark mark s.value.progress
+pub marked_at : (slots : List (Slot Tail)) (i id : ℕ) (s : Slot Tail) (mark : Mark) (p : Progress) → IsRising slots → i < length slots
+    → get_or (slot_ids slots) i 0 ≡ id → s ≡ get_or slots i s → p ≡ with_mark mark s.value.progress
     → set slots i (record { id = s.id; value = record s.value { progress = p } }) ≡ marked_slots slots id mark (value_with_id slots id)
 marked_at slots i id s mark p rising within same is done =
     let number : s.id ≡ id = ap (λ (u : Slot Tail). u.id) is ∙ (sym (from_place slots i s within) ∙ same) in
@@ -163,10 +175,12 @@ marked_at slots i id s mark p rising within same is done =
     ∙ with_value-present slots i id (marked_tail mark s.value) rising within same
     ∙ ap (λ (o : Option Tail). marked_slots slots id mark o) (value-present slots i id s rising within same is)
 
-pub marked_absent : (slots : List (Slot Tail)) (id : ℕ) (mark : Mark) → AreOther id slots → slots ≡ marked_slots slots id mark (value_with_id slots id)
+pub marked_absent : (slots : List (Slot Tail)) (id : ℕ) (mark : Mark) → AreOther id slots
+    → slots ≡ marked_slots slots id mark (value_with_id slots id)
 marked_absent slots id mark other = ap (λ (o : Option Tail). marked_slots slots id mark o) (sym (value-absent slots id other))
 
-pub marked_rises : (slots : List (Slot Tail)) (id : ℕ) (mark : Mark) (o : Option Tail) → IsRising slots → IsRising (marked_slots slots id mark o)
+pub marked_rises : (slots : List (Slot Tail)) (id : ℕ) (mark : Mark) (o : Option Tail) → IsRising slots
+    → IsRising (marked_slots slots id mark o)
 marked_rises slots id mark None rising = rising
 marked_rises slots id mark (Some x) rising = IsRising-with_value slots id (marked_tail mark x) rising
 

@@ -154,7 +154,8 @@ module _ (r : Run) (st : Stores) (client : ℕ) (checked : Checked) (resolved : 
   has_ids = (let fit = (numbers_fit r.script r.steps stands.formed stands.history).ids in let same = stands.stores.world.next_id in omega (arith, fit, same))
 
   pub few_commits : st.tracker.count < 4294967295
-  few_commits = (let fit = (numbers_fit r.script r.steps stands.formed stands.history).commits in let count = stands.stores.tracker.count in omega (arith, fit, count))
+  few_commits = (let fit = (numbers_fit r.script r.steps stands.formed stands.history).commits in let count = stands.stores.tracker.count in
+      omega (arith, fit, count))
 
   pub few_waits : length resolved.in_fences ≤ 16
   few_waits = rw can.asks.in_fences (few_in_fences r.script.topology (look_up (world r)) can.ready.request.assigns (few_objects r.script.topology stands.formed.device).planes)
@@ -205,11 +206,15 @@ module _ (r : Run) (st : Stores) (client : ℕ) (checked : Checked) (resolved : 
 
   -- Want of memory
 
-  pub roomy : (journal : Logged (ℕ × ℕ)) (replies : Logged Answered) (shown : Logged Latch) (made : Made) (fences roomy_fences : FenceSet) (was d queue : Queue) (tracker : Tracking) (steps : List Step)
+  pub roomy : (journal : Logged (ℕ × ℕ)) (replies : Logged Answered) (shown : Logged Latch) (made : Made) (fences roomy_fences : FenceSet)
+      (was d queue : Queue) (tracker : Tracking) (steps : List Step)
       → steps ≡ r.steps → journal.items ≡ st.journal.items → replies.items ≡ st.replies.items → shown.items ≡ st.latches.items → made ≡ st.made → fences.slots ≡ roomy_fences.slots
       → was ≡ slice_index_or st.queues (client - 1) d → KeepsStored st.fences roomy_fences was queue st.tracker tracker
-      → Stands (record { script = r.script; steps = steps }) (record st { journal = journal; replies = replies; latches = shown; made = made; fences = fences; queues = slice_set st.queues (client - 1) queue; tracker = tracker })
-  roomy journal replies shown made fences roomy_fences was d queue tracker steps is same_journal same_replies same_shown same_made same_set at kept =
+      → Stands (record { script = r.script; steps = steps })
+      (record st { journal = journal; replies = replies; latches = shown; made = made; fences = fences; queues = slice_set st.queues
+      (client - 1) queue; tracker = tracker })
+  roomy journal replies shown made fences roomy_fences was d queue tracker steps is same_journal same_replies same_shown
+      same_made same_set at kept =
       let mine = found_queue was d at in
       let same_tracker = kept.tracking in
       let base =
@@ -228,7 +233,8 @@ module _ (r : Run) (st : Stores) (client : ℕ) (checked : Checked) (resolved : 
           out_fenced = base.stores.out_fenced;
           queues = rw is (queues_same (length r.script.clients) (machine r).events client st.queues queue own.low high (kept.reserved ∙ ap (λ (q : Queue). q.reserved) mine) (kept.unread ∙ ap (λ (q : Queue). q.unread) mine) stands.stores.queues);
           tracker =
-              rw is (room_stands r.script.topology (machine r).device.commits (machine r).device.marks (machine r).records.latches st.tracker tracker
+              rw is (room_stands r.script.topology (machine r).device.commits (machine r).device.marks
+              (machine r).records.latches st.tracker tracker
               same_tracker.count same_tracker.lasts same_tracker.tails stands.stores.tracker);
           registers = base.stores.registers;
           going = base.stores.going;
@@ -289,7 +295,8 @@ pub record HasCommitted (r : Run) (st : Stores) (client : ℕ) (checked : Checke
       (map (λ f. f.1) resolved.in_fences)
 
 module _ (r : Run) (st : Stores) (client : ℕ) (checked : Checked) (resolved : Resolved) (stands : Stands r st) (can : MayCommit r client checked resolved)
-    (commit : ℕ) (clients : Standing) (journal : Logged (ℕ × ℕ)) (replies : Logged Answered) (made : Made) (present : Duplicates) (fences : FenceSet) (queues : List Queue) (queue : Queue) (tracker : Tracking)
+    (commit : ℕ) (clients : Standing) (journal : Logged (ℕ × ℕ)) (replies : Logged Answered) (made : Made) (present : Duplicates)
+    (fences : FenceSet) (queues : List Queue) (queue : Queue) (tracker : Tracking)
     (has : HasCommitted r st client checked resolved commit clients journal replies made present fences queues queue tracker) where
   left : SwapLeaves r.script (machine r) client can.ready.request (next r.script (machine r) (step.Swap client))
   left = swap_leaves r.script (machine r) client can.ready.request can.ready.at
@@ -341,7 +348,9 @@ module _ (r : Run) (st : Stores) (client : ℕ) (checked : Checked) (resolved : 
   world_stands = record {
     things = ap (λ (x : World). x.things) (left.world ∙ world_is);
     next_id = ap (λ (x : World). x.next_id) (left.world ∙ world_is);
-    states = rw left.world (committed_present r.script.topology (world r) can.ready.request at checked can.ready.checked_as can.states client st.present present holds.present.lawful.numbered can.ready.none holds.present.kept stands.stores.world.states has.present_swapped);
+    states = rw left.world (committed_present r.script.topology (world r) can.ready.request at checked can.ready.checked_as can.states
+        client st.present present holds.present.lawful.numbered can.ready.none holds.present.kept
+        stands.stores.world.states has.present_swapped);
   }
 
   fences_stand : FencesStand (committed r.script.topology (world r) client can.ready.request).world (machine r).device.signalled fences
@@ -377,7 +386,8 @@ module _ (r : Run) (st : Stores) (client : ℕ) (checked : Checked) (resolved : 
   fence_at (suc (suc (suc zero))) low = id_at 3 low
   fence_at (suc (suc (suc (suc n)))) low = absurd (omega (arith, low))
 
-  signed : AreSignalsOf r.script.topology swapped (signals_for client can.ready.request (fences_under made.things (labels_in resolved.out_fences)))
+  signed : AreSignalsOf r.script.topology swapped
+      (signals_for client can.ready.request (fences_under made.things (labels_in resolved.out_fences)))
   signed = record { client = refl; user_data = refl; event = refl; out_fences = fence_at }
 
   tracked : IsInStep r.script.topology (next r.script (machine r) (step.Swap client)) tracker
@@ -385,7 +395,8 @@ module _ (r : Run) (st : Stores) (client : ℕ) (checked : Checked) (resolved : 
       swap_follows r.script (machine r) client can.ready.request st.tracker tracker
       (signals_for client can.ready.request (fences_under made.things (labels_in resolved.out_fences))) checked
       (map (λ f. f.1) resolved.in_fences) can.ready.at stands.stores.tracker signed
-      (checked_for r.script.topology swapped checked stands.formed.device holds.present.lawful can.ready.none can.ready.checked_as can.states)
+      (checked_for r.script.topology swapped checked stands.formed.device holds.present.lawful can.ready.none
+      can.ready.checked_as can.states)
       (ap (map (λ f. f.1)) (sym can.asks.in_fences)) (has.set_up can.ready.request at_command)
 
   -- the out-fences of commits
@@ -455,7 +466,8 @@ module _ (r : Run) (st : Stores) (client : ℕ) (checked : Checked) (resolved : 
   out_fences_stand = rw left.commits out_fences_made_now
 
   committed_stands : StandsAt r.script (next r.script (machine r) (step.Swap client))
-      (record st { clients = clients; journal = journal; replies = replies; made = made; present = present; fences = fences; queues = slice_set queues (client - 1) queue; tracker = tracker })
+      (record st { clients = clients; journal = journal; replies = replies; made = made; present = present; fences = fences;
+      queues = slice_set queues (client - 1) queue; tracker = tracker })
   committed_stands = record {
     clients = clients_stand;
     recorded = recorded;
@@ -471,7 +483,10 @@ module _ (r : Run) (st : Stores) (client : ℕ) (checked : Checked) (resolved : 
   }
 
   pub commits : (before steps : List Step) → before ≡ r.steps → steps ≡ before ++ step.Swap client ∷ []
-      → Stands (record { script = r.script; steps = steps }) (record st { clients = clients; journal = journal; replies = replies; made = made; present = present; fences = fences; queues = slice_set queues (client - 1) queue; tracker = tracker })
+      → Stands (record { script = r.script; steps = steps })
+      (record st { clients = clients; journal = journal; replies = replies; made = made; present = present; fences = fences;
+      queues = slice_set queues (client - 1) queue; tracker = tracker })
   commits before steps is more =
-      goes_on r st (record st { clients = clients; journal = journal; replies = replies; made = made; present = present; fences = fences; queues = slice_set queues (client - 1) queue; tracker = tracker }) (step.Swap client) refl refl has.counted steps
+      goes_on r st (record st { clients = clients; journal = journal; replies = replies; made = made; present = present; fences = fences;
+      queues = slice_set queues (client - 1) queue; tracker = tracker }) (step.Swap client) refl refl has.counted steps
       (more ∙ ap (λ (xs : List Step). xs ++ step.Swap client ∷ []) is) stands can.legal committed_stands

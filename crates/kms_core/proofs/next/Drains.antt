@@ -16,15 +16,18 @@ none_is None false e = absurd (false≢true e)
 none_is (Some a) true e = absurd (false≢true (sym e))
 none_is (Some a) false e = refl
 
-cleaned_from : (r : Run) (o : Option ℕ) → IsFirstFrom (machine r).device.marks (length (machine r).device.commits) 0 o → is_none o ≡ list_all (is_cleaned (machine r).device) (commit_numbers (machine r))
+cleaned_from : (r : Run) (o : Option ℕ) → IsFirstFrom (machine r).device.marks (length (machine r).device.commits) 0 o
+    → is_none o ≡ list_all (is_cleaned (machine r).device) (commit_numbers (machine r))
 cleaned_from r None first = sym (all_pass (is_cleaned (machine r).device) 0 (length (machine r).device.commits) (λ j low high. first j low (omega (arith, high))))
 cleaned_from r (Some k) first =
     let within = first.1 in
     sym (one_fails (is_cleaned (machine r).device) 0 (length (machine r).device.commits) k (omega arith) (omega (arith, within)) first.2)
 
-pub cleaned_told : (r v : Run) (st : Stores) (o : Option ℕ) (b : Bool) → Stands r st → r ≡ v → FindsFirst st.tracker 0 o → is_some o ≡ not b → b ≡ list_all (is_cleaned (machine v).device) (commit_numbers (machine v))
+pub cleaned_told : (r v : Run) (st : Stores) (o : Option ℕ) (b : Bool) → Stands r st → r ≡ v → FindsFirst st.tracker 0 o → is_some o ≡ not b
+    → b ≡ list_all (is_cleaned (machine v).device) (commit_numbers (machine v))
 cleaned_told r v st o b stands same first none =
-    none_is o b none ∙ cleaned_from r o (first r.script.topology (machine r).device.commits (machine r).device.marks (machine r).records.latches stands.stores.tracker)
+    none_is o b none ∙ cleaned_from r o
+    (first r.script.topology (machine r).device.commits (machine r).device.marks (machine r).records.latches stands.stores.tracker)
     ∙ ap (λ (w : Run). list_all (is_cleaned (machine w).device) (commit_numbers (machine w))) same
 
 module _ (v : Run) where

@@ -86,7 +86,8 @@ lockable_few t Conn i device on = let lt = ltb-true i (length t.conns) on in ome
 lockable_few t Enc i device on = absurd (false≢true on)
 
 -- what the states of a check tell to be affected is what the request affects
-pub affected_alike : (r : Run) (st : Stores) (request : Request) (checked : Checked) → Stands r st → early_in r.script.topology (world r) request ≡ None → IsChecked r.script.topology (world r) request checked → HasStates checked
+pub affected_alike : (r : Run) (st : Stores) (request : Request) (checked : Checked) → Stands r st
+    → early_in r.script.topology (world r) request ≡ None → IsChecked r.script.topology (world r) request checked → HasStates checked
     → affected_below checked.states.crtcs checked.named 4 ≡ affected_group r.script.topology (world r) request
 affected_alike r st request checked stands none is all =
     let t = r.script.topology in
@@ -98,14 +99,17 @@ affected_alike r st request checked stands none is all =
     let few = (few_objects t stands.formed.device).crtcs in
     ap (λ (o : Option _). is_some o) (there_is checked.states.crtcs i) ∙ all.crtcs i (omega (arith, within, few)) bit) in
     ap (λ named. affected_below checked.states.crtcs named 4) is.named
-    ∙ affected-is t w request checked.states (record { at = record { device = stands.formed.device; sound = (presented r st stands).sound; early = none }; old = is.old; new = is.new }) there
+    ∙ affected-is t w request checked.states
+    (record { at = record { device = stands.formed.device; sound = (presented r st stands).sound; early = none };
+    old = is.old; new = is.new }) there
 
 abbrev only_crtcs : ℕ → Mask
 only_crtcs crtcs = record { crtcs = crtcs; planes = 0; conns = 0 }
 
 -- as the call finds it
 pub needs_at : (r v : Run) (st : Stores) (client : ℕ) (n : Needs) (checked : Checked) → Stands r st → r ≡ v → Some n.request.now ≡ request_taken v.script (machine v) client
-    → early_in v.script.topology (world v) n.request.now ≡ None → IsChecked v.script.topology (world v) n.request.now checked → HasStates checked
+    → early_in v.script.topology (world v) n.request.now ≡ None
+    → IsChecked v.script.topology (world v) n.request.now checked → HasStates checked
     → n.named ≡ record { crtcs = checked.named; planes = 0; conns = 0 } → n.affected ≡ affected_below checked.states.crtcs checked.named 4 → n.touched ≡ checked.touched → NeedsLocks v client n
 needs_at r v st client n checked stands same taken none is all named_is affected_is touched_is =
     let q = n.request.now in

@@ -123,11 +123,14 @@ module _ (s : Script) (m : Machine) (client : ℕ) (request : Request) (j : Judg
 -- Accepted requests
 
 -- all that is touched is duplicated, where all is
-all_states : (t : Topology) (w : World) (request : Request) (checked : Checked) → StandBetween t w request checked.states → checked.touched ≡ touched_by t w request → HasStates checked
+all_states : (t : Topology) (w : World) (request : Request) (checked : Checked) → StandBetween t w request checked.states
+    → checked.touched ≡ touched_by t w request → HasStates checked
 all_states t w request checked stand touched = record {
   crtcs = λ i few has. there_at checked.states.crtcs i (stand.all.crtcs i (within Crtc (λ (m : Mask). m.crtcs) i _ (has_bit-mask_below _ (count_of t Crtc) i) has));
-  planes = λ i few has. there_at checked.states.planes i (stand.all.planes i (within Plane (λ (m : Mask). m.planes) i _ (has_bit-mask_below _ (count_of t Plane) i) has));
-  conns = λ i few has. there_at checked.states.conns i (stand.all.conns i (within Conn (λ (m : Mask). m.conns) i _ (has_bit-mask_below _ (count_of t Conn) i) has));
+  planes = λ i few has. there_at checked.states.planes i
+      (stand.all.planes i (within Plane (λ (m : Mask). m.planes) i _ (has_bit-mask_below _ (count_of t Plane) i) has));
+  conns = λ i few has. there_at checked.states.conns i
+      (stand.all.conns i (within Conn (λ (m : Mask). m.conns) i _ (has_bit-mask_below _ (count_of t Conn) i) has));
 }
   where
     within : (kind : Kind) (part : Mask → ℕ) (i : ℕ) (test : Bool) → has_bit (part (touched_by t w request)) i ≡ (nat_lt i (count_of t kind) && test) → has_bit (part checked.touched) i ≡ true → i < count_of t kind
@@ -244,7 +247,8 @@ unfolding legal
 going_now v client is = not-true (machine v).stalled (and_parts (not (machine v).stalled) _ is).0
 
 pub commits_now : (r v : Run) (st : Stores) (client : ℕ) (request : Request) (checked : Checked) (resolved : Resolved) → Stands r st → r ≡ v → IsLegal v (step.Swap client) → Some request ≡ request_taken v.script (machine v) client
-    → IsChecked v.script.topology (world v) request checked → HasStates checked → IsResolved v.script.topology (look_up (world v)) request resolved → MayCommit v client checked resolved
+    → IsChecked v.script.topology (world v) request checked → HasStates checked
+    → IsResolved v.script.topology (look_up (world v)) request resolved → MayCommit v client checked resolved
 commits_now r v st client request checked resolved stands same is taken as_checked states asks =
     let takes = taken_parts v.script (machine v) client request taken in
     let swap = swap_parts v client request is takes in

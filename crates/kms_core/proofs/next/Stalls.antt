@@ -38,13 +38,16 @@ module _ (r v : Run) (st : Stores) (stands : Stands r st) (same : r ≡ v) where
 
   -- The least commit
 
-  pub awaits_further : (from k : ℕ) → FindsFirst st.tracker from (Some k) → None ≡ awaited k → ((j : ℕ) → j < from → awaited j ≡ None) → (j : ℕ) → j < k + 1 → awaited j ≡ None
+  pub awaits_further : (from k : ℕ) → FindsFirst st.tracker from (Some k) → None ≡ awaited k → ((j : ℕ) → j < from → awaited j ≡ None)
+      → (j : ℕ) → j < k + 1 → awaited j ≡ None
   awaits_further = nothing_further ℕ r v st stands same awaited cleaned_awaits
 
-  pub awaits_found : (from k fence : ℕ) → FindsFirst st.tracker from (Some k) → Some fence ≡ awaited k → ((j : ℕ) → j < from → awaited j ≡ None) → Some fence ≡ first_some awaited (commit_numbers (machine v))
+  pub awaits_found : (from k fence : ℕ) → FindsFirst st.tracker from (Some k) → Some fence ≡ awaited k
+      → ((j : ℕ) → j < from → awaited j ≡ None) → Some fence ≡ first_some awaited (commit_numbers (machine v))
   awaits_found = something_found ℕ r v st stands same awaited cleaned_awaits
 
-  pub awaits_none : (from : ℕ) → FindsFirst st.tracker from None → ((j : ℕ) → j < from → awaited j ≡ None) → None ≡ first_some awaited (commit_numbers (machine v))
+  pub awaits_none : (from : ℕ) → FindsFirst st.tracker from None → ((j : ℕ) → j < from → awaited j ≡ None)
+      → None ≡ first_some awaited (commit_numbers (machine v))
   awaits_none = nothing_found ℕ r v st stands same awaited cleaned_awaits
 
 module _ (v : Run) where

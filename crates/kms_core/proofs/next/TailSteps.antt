@@ -47,26 +47,32 @@ module _ (r v : Run) (st : Stores) (k : ℕ) (stands : Stands r st) (same : r �
   is_left x found =
       elim (cases_lt k (length (machine r).device.commits)) [
         | inl within ↦
-            (let kept = subst (λ (o : Option Tail). IsKept r.script.topology (machine r).device.commits (machine r).device.marks (machine r).records.latches k o) (sym found) (stands.stores.tracker.kept k within) in
+            (let kept = subst (λ (o : Option Tail). IsKept r.script.topology (machine r).device.commits (machine r).device.marks
+            (machine r).records.latches k o) (sym found) (stands.stores.tracker.kept k within) in
             record { within = within; unclean = kept.0; is = kept.1 })
-        | inr above ↦ (let none : Some x ≡ None = found ∙ value_above st.tracker.tails.slots (length (machine r).device.commits) k stands.stores.tracker.below above in absurd cc)
+        | inr above ↦ (let none : Some x ≡ None = found
+            ∙ value_above st.tracker.tails.slots (length (machine r).device.commits) k stands.stores.tracker.below above in absurd cc)
       ]
 
   -- a commit that has no tail is cleaned, or was not set up
-  absent : (step : Step) → commit_of_tail_step step ≡ Some k → None ≡ value_with_id st.tracker.tails.slots k → legal r.script (going (machine r)) step ≡ may r.script (machine r) step
+  absent : (step : Step) → commit_of_tail_step step ≡ Some k → None ≡ value_with_id st.tracker.tails.slots k
+      → legal r.script (going (machine r)) step ≡ may r.script (machine r) step
       → (has_number (machine r).device.marks.cleaned k ≡ true → may r.script (machine r) step ≡ false) → false ≡ may v.script (machine v) step
   absent step of_commit gone is_legal cleaned =
       sym
       (elim (cases_lt k (length (machine r).device.commits)) [
         | inl within ↦
-            cleaned (subst (λ (o : Option Tail). IsKept r.script.topology (machine r).device.commits (machine r).device.marks (machine r).records.latches k o) (sym gone) (stands.stores.tracker.kept k within)).0
+            cleaned (subst (λ (o : Option Tail). IsKept r.script.topology (machine r).device.commits (machine r).device.marks
+                (machine r).records.latches k o) (sym gone) (stands.stores.tracker.kept k within)).0
         | inr above ↦
             false_from_ne_true (may r.script (machine r) step)
-            (λ may_be. (let within = legal_below r.script (going (machine r)) step k st.tracker of_commit (is_legal ∙ may_be) stands.stores.tracker in absurd (omega (arith, within, above))))
+            (λ may_be. (let within = legal_below r.script (going (machine r)) step k st.tracker of_commit
+            (is_legal ∙ may_be) stands.stores.tracker in absurd (omega (arith, within, above))))
       ])
       ∙ ap (λ (w : Run). may w.script (machine w) step) same
 
-  pub write_told : (x : Tail) (kind : Kind) (index : ℕ) → Some x ≡ value_with_id st.tracker.tails.slots k → writes_next r.script.topology x kind index ≡ may v.script (machine v) (step.Write k kind index)
+  pub write_told : (x : Tail) (kind : Kind) (index : ℕ) → Some x ≡ value_with_id st.tracker.tails.slots k
+      → writes_next r.script.topology x kind index ≡ may v.script (machine v) (step.Write k kind index)
   unfolding may
   write_told x kind index found =
       let l = is_left x found in
@@ -75,11 +81,13 @@ module _ (r v : Run) (st : Stores) (k : ℕ) (stands : Stands r st) (same : r �
       ∙ ap (λ o. is_claimed d k && (exists r.script.topology kind index && has_value (object_id kind index) o)) (write_is r.script.topology d (machine r).records.latches k x stands.formed.device l.is)
       ∙ ap (λ (w : Run). may w.script (machine w) (step.Write k kind index)) same
 
-  pub write_absent : (kind : Kind) (index : ℕ) → None ≡ value_with_id st.tracker.tails.slots k → false ≡ may v.script (machine v) (step.Write k kind index)
+  pub write_absent : (kind : Kind) (index : ℕ) → None ≡ value_with_id st.tracker.tails.slots k
+      → false ≡ may v.script (machine v) (step.Write k kind index)
   unfolding may legal
   write_absent kind index gone = absent (step.Write k kind index) refl gone refl (λ clean. no_write r.script (machine r) (facts r st stands).holds k clean kind index)
 
-  pub flush_told : (x : Tail) (kind : Kind) (index : ℕ) → Some x ≡ value_with_id st.tracker.tails.slots k → flushes_next r.script.topology x kind index ≡ may v.script (machine v) (step.Flush k kind index)
+  pub flush_told : (x : Tail) (kind : Kind) (index : ℕ) → Some x ≡ value_with_id st.tracker.tails.slots k
+      → flushes_next r.script.topology x kind index ≡ may v.script (machine v) (step.Flush k kind index)
   unfolding may
   flush_told x kind index found =
       let l = is_left x found in
@@ -88,7 +96,8 @@ module _ (r v : Run) (st : Stores) (k : ℕ) (stands : Stands r st) (same : r �
       ∙ ap (λ o. is_all_written r.script.topology d k && (exists r.script.topology kind index && has_value (object_id kind index) o)) (flush_is r.script.topology d (machine r).records.latches k x stands.formed.device l.is)
       ∙ ap (λ (w : Run). may w.script (machine w) (step.Flush k kind index)) same
 
-  pub flush_absent : (kind : Kind) (index : ℕ) → None ≡ value_with_id st.tracker.tails.slots k → false ≡ may v.script (machine v) (step.Flush k kind index)
+  pub flush_absent : (kind : Kind) (index : ℕ) → None ≡ value_with_id st.tracker.tails.slots k
+      → false ≡ may v.script (machine v) (step.Flush k kind index)
   unfolding may legal
   flush_absent kind index gone = absent (step.Flush k kind index) refl gone refl (λ clean. no_flush r.script (machine r) (facts r st stands).holds k clean kind index)
 
@@ -113,7 +122,8 @@ module _ (r v : Run) (st : Stores) (k : ℕ) (stands : Stands r st) (same : r �
   over_unclean true false c off = refl
   over_unclean false b c off = refl
 
-  pub cleanup_told : (x : Tail) → Some x ≡ value_with_id st.tracker.tails.slots k → is_over_tail x ≡ may v.script (machine v) (step.Cleanup k)
+  pub cleanup_told : (x : Tail) → Some x ≡ value_with_id st.tracker.tails.slots k
+      → is_over_tail x ≡ may v.script (machine v) (step.Cleanup k)
   unfolding may
   cleanup_told x found =
       let l = is_left x found in
@@ -131,12 +141,15 @@ module _ (r v : Run) (st : Stores) (k : ℕ) (stands : Stands r st) (same : r �
 
   claim_within : k < length (machine r).device.commits → ready_of st.tracker st.fences k ≡ may_claim r.script.topology (machine r) k
   claim_within within =
-      ready_machine r.script.topology (machine r) st.tracker stands.stores.tracker (device_within r.script.topology stands.formed.device) st.fences k (λ id is. stands.stores.fences.same id (waited_made r st k id stands within is))
+      ready_machine r.script.topology (machine r) st.tracker stands.stores.tracker
+      (device_within r.script.topology stands.formed.device) st.fences k
+      (λ id is. stands.stores.fences.same id (waited_made r st k id stands within is))
 
   claim_above : length (machine r).device.commits ≤ k → ready_of st.tracker st.fences k ≡ may_claim r.script.topology (machine r) k
   unfolding may_claim
   claim_above above =
-      ap (tail_ready st.tracker st.fences) (value_above st.tracker.tails.slots (length (machine r).device.commits) k stands.stores.tracker.below above)
+      ap (tail_ready st.tracker st.fences)
+      (value_above st.tracker.tails.slots (length (machine r).device.commits) k stands.stores.tracker.below above)
       ∙ sym (and_left (nat_lt k (length (machine r).device.commits)) _ (le-ltb k (length (machine r).device.commits) above))
 
   pub claim_told : ready_of st.tracker st.fences k ≡ may v.script (machine v) (step.Claim k)

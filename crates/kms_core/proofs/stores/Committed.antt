@@ -51,7 +51,8 @@ there_at {S} states i some = of_slot (slice_get states i) refl some where
 
 -- What was not duplicated is as it was
 
-module _ (t : Topology) (w : World) (r : Request) (at : IsRequestAt t w r) (checked : Checked) (is : IsChecked t w r checked) (has : HasStates checked) where
+module _ (t : Topology) (w : World) (r : Request) (at : IsRequestAt t w r) (checked : Checked) (is : IsChecked t w r checked)
+    (has : HasStates checked) where
   few : HasFewObjects t
   few = few_objects t at.device
 
@@ -114,8 +115,10 @@ module _ (t : Topology) (w : World) (r : Request) (at : IsRequestAt t w r) (chec
         new = record { crtcs = crtcs.1; planes = planes.1; conns = conns.1 };
       }
 
-  pub committed_present : (client : ℕ) (present news : Duplicates) → IsNumbered w → verdict t w r ≡ None → AreKept w.things → IsPresent t w present → IsSwappedIn present checked.states news → IsPresent t (committed t w client r).world news
+  pub committed_present : (client : ℕ) (present news : Duplicates) → IsNumbered w → verdict t w r ≡ None → AreKept w.things
+      → IsPresent t w present → IsSwappedIn present checked.states news → IsPresent t (committed t w client r).world news
   committed_present client present news numbered none kept was swaps =
       let v : World = record w { values = after w r; commits = w.commits + 1 } in
-      let follows = follows-out_fences t client r.assigns v (ids_of t Crtc) (sound-apply t w r (w.commits + 1) (record { sound = at.sound; numbered = numbered }) none) kept in
+      let follows = follows-out_fences t client r.assigns v (ids_of t Crtc)
+      (sound-apply t w r (w.commits + 1) (record { sound = at.sound; numbered = numbered }) none) kept in
       present_seen t v (committed t w client r).world news follows.like.values follows.like.alike (values_present present news was swaps)

@@ -15,7 +15,8 @@ use Rattle.kms_core.specs.Stands.{Stores, Stands}
 use Rattle.kms_core.proofs.stores.Ranges.{none_some, one_some}
 
 -- What holds of commits that are cleaned and of those before a number holds of those up to the first that is found from there.
-module _ (t : Topology) (commits : List Commit) (marks : Marks) (latches : List Latch) (v : Tracking) (stand : IsTrackerOf t commits marks latches v) (P : ℕ → Type 0) (over : (j : ℕ) → has_number marks.cleaned j ≡ true → P j) where
+module _ (t : Topology) (commits : List Commit) (marks : Marks) (latches : List Latch) (v : Tracking)
+    (stand : IsTrackerOf t commits marks latches v) (P : ℕ → Type 0) (over : (j : ℕ) → has_number marks.cleaned j ≡ true → P j) where
   pub before_first : (from k : ℕ) → FindsFirst v from (Some k) → ((j : ℕ) → j < from → P j) → (j : ℕ) → j < k → P j
   before_first from k first before j low =
       let found = first t commits marks latches stand in
@@ -39,28 +40,36 @@ module _ (t : Topology) (commits : List Commit) (marks : Marks) (latches : List 
         | inr above ↦ over j (first t commits marks latches stand j above within)
       ]
 
-pub tail_within : (r v : Run) (st : Stores) → Stands r st → r ≡ v → (from k : ℕ) → FindsFirst st.tracker from (Some k) → k < length (machine v).device.commits
+pub tail_within : (r v : Run) (st : Stores) → Stands r st → r ≡ v → (from k : ℕ) → FindsFirst st.tracker from (Some k)
+    → k < length (machine v).device.commits
 tail_within r v st stands same from k first =
-    let found = first r.script.topology (machine r).device.commits (machine r).device.marks (machine r).records.latches stands.stores.tracker in
+    let found = first r.script.topology (machine r).device.commits (machine r).device.marks
+    (machine r).records.latches stands.stores.tracker in
     let within = found.1 in
     let size = ap (λ (w : Run). length (machine w).device.commits) same in
     omega (arith, within, size)
 
 module _ (A : Type 0) (r v : Run) (st : Stores) (stands : Stands r st) (same : r ≡ v) (f : ℕ → Option A) (over : (k : ℕ) → has_number (machine r).device.marks.cleaned k ≡ true → f k ≡ None) where
-  pub nothing_further : (from k : ℕ) → FindsFirst st.tracker from (Some k) → None ≡ f k → ((j : ℕ) → j < from → f j ≡ None) → (j : ℕ) → j < k + 1 → f j ≡ None
+  pub nothing_further : (from k : ℕ) → FindsFirst st.tracker from (Some k) → None ≡ f k → ((j : ℕ) → j < from → f j ≡ None)
+      → (j : ℕ) → j < k + 1 → f j ≡ None
   nothing_further from k first none before =
-      up_to_first r.script.topology (machine r).device.commits (machine r).device.marks (machine r).records.latches st.tracker stands.stores.tracker (λ j. f j ≡ None) over from k first (sym none) before
+      up_to_first r.script.topology (machine r).device.commits (machine r).device.marks
+      (machine r).records.latches st.tracker stands.stores.tracker (λ j. f j ≡ None) over from k first (sym none) before
 
-  pub something_found : (from k : ℕ) (x : A) → FindsFirst st.tracker from (Some k) → Some x ≡ f k → ((j : ℕ) → j < from → f j ≡ None) → Some x ≡ first_some f (commit_numbers (machine v))
+  pub something_found : (from k : ℕ) (x : A) → FindsFirst st.tracker from (Some k) → Some x ≡ f k → ((j : ℕ) → j < from → f j ≡ None)
+      → Some x ≡ first_some f (commit_numbers (machine v))
   something_found from k x first is before =
       let within = tail_within r v st stands same from k first in
       sym
       (one_some f 0 (length (machine v).device.commits) k x (omega arith) (omega (arith, within)) (sym is)
-      (λ j low high. before_first r.script.topology (machine r).device.commits (machine r).device.marks (machine r).records.latches st.tracker stands.stores.tracker (λ i. f i ≡ None) over from k first before j high))
+      (λ j low high. before_first r.script.topology (machine r).device.commits (machine r).device.marks
+      (machine r).records.latches st.tracker stands.stores.tracker (λ i. f i ≡ None) over from k first before j high))
 
-  pub nothing_found : (from : ℕ) → FindsFirst st.tracker from None → ((j : ℕ) → j < from → f j ≡ None) → None ≡ first_some f (commit_numbers (machine v))
+  pub nothing_found : (from : ℕ) → FindsFirst st.tracker from None → ((j : ℕ) → j < from → f j ≡ None)
+      → None ≡ first_some f (commit_numbers (machine v))
   nothing_found from first before =
       let size = ap (λ (w : Run). length (machine w).device.commits) same in
       sym
       (none_some f 0 (length (machine v).device.commits)
-      (λ j low high. of_all r.script.topology (machine r).device.commits (machine r).device.marks (machine r).records.latches st.tracker stands.stores.tracker (λ i. f i ≡ None) over from first before j (omega (arith, high, size))))
+      (λ j low high. of_all r.script.topology (machine r).device.commits (machine r).device.marks
+      (machine r).records.latches st.tracker stands.stores.tracker (λ i. f i ≡ None) over from first before j (omega (arith, high, size))))

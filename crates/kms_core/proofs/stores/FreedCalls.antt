@@ -54,8 +54,10 @@ use Rattle.kms_core.proofs.stores.Histories.{goes_freeing, with_fbs, with_freed}
 use Rattle.kms_core.proofs.stores.StoredCalls.{IsLeft, LeavesFbs, added_takes, closed_is, execute_leaves, taken_stored}
 
 -- the stores that stand for a machine tell what it needs
-pub tell_needs : (s : Script) (m : Machine) (st : Stores) → IsDevice s.topology → StandsAt s m st → TellNeeds s.topology m st.made st.present st.registers st.tracker s.topology.crtcs
-tell_needs s m st device stands = record { device = device; count = refl; world = stands.world; written = stands.registers; kept = stands.tracker }
+pub tell_needs : (s : Script) (m : Machine) (st : Stores) → IsDevice s.topology → StandsAt s m st
+    → TellNeeds s.topology m st.made st.present st.registers st.tracker s.topology.crtcs
+tell_needs s m st device stands =
+    record { device = device; count = refl; world = stands.world; written = stands.registers; kept = stands.tracker }
 
 -- There are places for candidates that are needed.
 

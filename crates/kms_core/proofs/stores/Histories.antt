@@ -121,9 +121,11 @@ with_fbs s m st fbs stands = record {
 }
 
 -- and where marks, shadow words and what follows these are told anew
-pub written_anew : (s : Script) (m : Machine) (shadow : Registers) (marks : Marks) (st : Stores) (tracker : Tracking) (new : RegisterFile) → StandsForDevice s.topology (record m.device { shadow = shadow; marks = marks }) new
+pub written_anew : (s : Script) (m : Machine) (shadow : Registers) (marks : Marks) (st : Stores) (tracker : Tracking) (new : RegisterFile)
+    → StandsForDevice s.topology (record m.device { shadow = shadow; marks = marks }) new
     → IsTrackerOf s.topology m.device.commits marks m.records.latches tracker → StandsAt s m st
-    → StandsAt s (record m { device = record m.device { shadow = shadow; marks = marks } }) (record st { tracker = tracker; registers = new })
+    → StandsAt s (record m { device = record m.device { shadow = shadow; marks = marks } })
+    (record st { tracker = tracker; registers = new })
 written_anew s m shadow marks st tracker new written tracked stands = record {
   clients = stands.clients;
   recorded = stands.recorded;

@@ -37,16 +37,19 @@ use Rattle.kms_core.proofs.stores.FirstTails.{before_first, of_all, up_to_first}
 -- the commits below a number are cleaned, or fail a test
 abbrev pub ArePassed : Tracking → (ℕ → Bool) → ℕ → Type 0
 ArePassed v test from =
-    (t : Topology) (commits : List Commit) (marks : Marks) (latches : List Latch) → IsTrackerOf t commits marks latches v → (j : ℕ) → j < from → j < length commits → IsPassedBy marks test j
+    (t : Topology) (commits : List Commit) (marks : Marks) (latches : List Latch) → IsTrackerOf t commits marks latches v → (j : ℕ)
+    → j < from → j < length commits → IsPassedBy marks test j
 
 pub none_passed : (v : Tracking) (test : ℕ → Bool) → ArePassed v test 0
 none_passed v test t commits marks latches stand j low within = absurd (omega (arith, low))
 
-pub one_passed : (v : Tracking) (test : ℕ → Bool) (from k : ℕ) → ArePassed v test from → FindsFirst v from (Some k) → test k ≡ false → ArePassed v test (k + 1)
+pub one_passed : (v : Tracking) (test : ℕ → Bool) (from k : ℕ) → ArePassed v test from → FindsFirst v from (Some k) → test k ≡ false
+    → ArePassed v test (k + 1)
 one_passed v test from k passed first fails t commits marks latches stand =
     up_to_first t commits marks latches v stand (λ j. j < length commits → IsPassedBy marks test j) (λ j cleaned within. inl cleaned) from k first (λ within. inr fails) (passed t commits marks latches stand)
 
-pub one_found : (v : Tracking) (test : ℕ → Bool) (from k : ℕ) → ArePassed v test from → FindsFirst v from (Some k) → test k ≡ true → FindsFirstWhere v test (Some k)
+pub one_found : (v : Tracking) (test : ℕ → Bool) (from k : ℕ) → ArePassed v test from → FindsFirst v from (Some k) → test k ≡ true
+    → FindsFirstWhere v test (Some k)
 one_found v test from k passed first passes t commits marks latches stand =
     let within : k < length commits = (first t commits marks latches stand).1 in (
       within,
@@ -111,7 +114,8 @@ find_first p a (suc n) k low high passes fails =
 pub few_tails : (r : Run) (st : Stores) → Stands r st → AreFewCommits st.tracker
 few_tails r st stands =
     let fit = (numbers_fit r.script r.steps stands.formed stands.history).commits in
-    record { topology = r.script.topology; commits = (machine r).device.commits; marks = (machine r).device.marks; latches = (machine r).records.latches; stand = stands.stores.tracker; few = omega (arith, fit) }
+    record { topology = r.script.topology; commits = (machine r).device.commits; marks = (machine r).device.marks;
+    latches = (machine r).records.latches; stand = stands.stores.tracker; few = omega (arith, fit) }
 
 -- the fences that a commit waits for were made
 pub waited_made : (r : Run) (st : Stores) (k id : ℕ) → Stands r st → k < length (machine r).device.commits → IsIn id (waited_fences r.script.topology (machine r).device.commits k) → is_made st.fences id ≡ true
@@ -134,7 +138,9 @@ claim_is : (r : Run) (st : Stores) (k : ℕ) → Stands r st → IsGoing r → k
 unfolding legal may
 claim_is r st k stands going within =
     going_only (machine r).stalled (may_claim r.script.topology (machine r) k) going
-    ∙ sym (ready_machine r.script.topology (machine r) st.tracker stands.stores.tracker (device_within r.script.topology stands.formed.device) st.fences k (λ id is. stands.stores.fences.same id (waited_made r st k id stands within is)))
+    ∙ sym (ready_machine r.script.topology (machine r) st.tracker stands.stores.tracker
+    (device_within r.script.topology stands.formed.device) st.fences k
+    (λ id is. stands.stores.fences.same id (waited_made r st k id stands within is)))
 
 -- the claim of a commit that is cleaned is not
 claim_over : (r : Run) (st : Stores) (k : ℕ) → Stands r st → has_number (machine r).device.marks.cleaned k ≡ true → legal r.script (machine r) (step.Claim k) ≡ false
@@ -154,13 +160,18 @@ answered r st (Some k) stands going first =
     sym (find_first (λ k. legal r.script (machine r) (step.Claim k)) 0 (length (machine r).device.commits) k (omega arith) (omega (arith, within)) (claim_is r st k stands going within ∙ first.1)
     (λ j low before. passed_by r st j stands going (omega (arith, before, within)) (first.2 j before)))
 
-pub claim_found : (r v : Run) (st : Stores) (found : Option ℕ) → Stands r st → r ≡ v → st.stalled ≡ false → FindsFirstWhere st.tracker (ready_of st.tracker st.fences) found → found ≡ first_claim v
+pub claim_found : (r v : Run) (st : Stores) (found : Option ℕ) → Stands r st → r ≡ v → st.stalled ≡ false
+    → FindsFirstWhere st.tracker (ready_of st.tracker st.fences) found → found ≡ first_claim v
 claim_found r v st found stands same going first =
-    answered r st found stands (stands.stores.ended ∙ going) (first r.script.topology (machine r).device.commits (machine r).device.marks (machine r).records.latches stands.stores.tracker) ∙ ap first_claim same
+    answered r st found stands (stands.stores.ended ∙ going)
+    (first r.script.topology (machine r).device.commits (machine r).device.marks (machine r).records.latches stands.stores.tracker)
+    ∙ ap first_claim same
 
-pub claim_legal : (r v : Run) (st : Stores) (k : ℕ) → Stands r st → r ≡ v → st.stalled ≡ false → FindsFirstWhere st.tracker (ready_of st.tracker st.fences) (Some k) → legal r.script (machine r) (step.Claim k) ≡ true
+pub claim_legal : (r v : Run) (st : Stores) (k : ℕ) → Stands r st → r ≡ v → st.stalled ≡ false
+    → FindsFirstWhere st.tracker (ready_of st.tracker st.fences) (Some k) → legal r.script (machine r) (step.Claim k) ≡ true
 claim_legal r v st k stands same going first =
-    let found = first r.script.topology (machine r).device.commits (machine r).device.marks (machine r).records.latches stands.stores.tracker in
+    let found = first r.script.topology (machine r).device.commits (machine r).device.marks
+    (machine r).records.latches stands.stores.tracker in
     claim_is r st k stands (stands.stores.ended ∙ going) found.0 ∙ found.1
 
 -- none is after the end of the history

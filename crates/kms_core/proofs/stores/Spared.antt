@@ -75,11 +75,13 @@ pub few_left : (r : Run) (st : Stores) → Stands r st → all_left r.script.top
 few_left r st stands =
     let t = r.script.topology in
     let d = (machine r).device in
-    let each = sum-more (tail_left t (machine r)) (in_table st.tracker.tails.slots) 0 (length d.commits) (λ k a b. of_commit k (value_with_id st.tracker.tails.slots k) refl (stands.stores.tracker.kept k (omega (arith, b)))) in
+    let each = sum-more (tail_left t (machine r)) (in_table st.tracker.tails.slots) 0 (length d.commits)
+    (λ k a b. of_commit k (value_with_id st.tracker.tails.slots k) refl (stands.stores.tracker.kept k (omega (arith, b)))) in
     let all = sum_table st.tracker.tails.slots 0 (length d.commits) in
     omega (arith, each, all)
   where
-    of_commit : (k : ℕ) (o : Option Tail) → value_with_id st.tracker.tails.slots k ≡ o → IsKept r.script.topology (machine r).device.commits (machine r).device.marks (machine r).records.latches k o
+    of_commit : (k : ℕ) (o : Option Tail) → value_with_id st.tracker.tails.slots k ≡ o → IsKept r.script.topology (machine r).device.commits
+        (machine r).device.marks (machine r).records.latches k o
         → tail_left r.script.topology (machine r) k ≤ in_table st.tracker.tails.slots k
     of_commit k None is kept = (let none = cleaned_over r.script (machine r) k (facts r st stands).holds kept.0 in omega (arith, none))
     of_commit k (Some x) is kept =
@@ -119,7 +121,8 @@ tail_spared r old new step k before steps made shown room latches stands after s
 
 -- a swap
 pub swap_spared : (r : Run) (old new : Stores) (step : Step) (before steps : List Step) (made room latches : ℕ) → Stands r old → Stands (with_steps r steps) new → before ≡ r.steps → steps ≡ before ++ step ∷ []
-    → 31 * length old.tracker.tails.slots + 32 ≤ made → made ≤ room + 1 → 31 * length old.tracker.tails.slots + 31 ≤ latches → HasSpare (with_steps r steps) room latches
+    → 31 * length old.tracker.tails.slots + 32 ≤ made → made ≤ room + 1 → 31 * length old.tracker.tails.slots + 31 ≤ latches
+    → HasSpare (with_steps r steps) room latches
 swap_spared r old new step before steps made room latches stands after same more enough pushed shown =
     let less = (shorter r old new step before steps stands after same more).of_swap in
     let few = few_left r old stands in
@@ -171,7 +174,8 @@ pub record IsOwn (r : Run) (step : Step) (k : ℕ) : Type 0 where
   pub of : commit_of_step (machine r) step ≡ Some k
 
 pub own_step : (r : Run) (st : Stores) (step : Step) (k : ℕ) → Stands r st → commit_of_tail_step step ≡ Some k → commit_of_step (machine r) step ≡ Some k → legal r.script (machine r) step ≡ true → IsOwn r step k
-own_step r st step k stands told of is = record { is_legal = is; within = legal_below r.script (machine r) step k st.tracker told is stands.stores.tracker; of = of }
+own_step r st step k stands told of is =
+    record { is_legal = is; within = legal_below r.script (machine r) step k st.tracker told is stands.stores.tracker; of = of }
 
 pub own_room : (r : Run) (st : Stores) (step : Step) (k room latches : ℕ) → Stands r st → IsOwn r step k → HasSpare r room latches → HasRoom room latches
 own_room r st step k room latches stands own spare = tail_room r st step k room latches stands own.is_legal own.within own.of spare

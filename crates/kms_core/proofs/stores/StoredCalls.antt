@@ -195,7 +195,8 @@ first_held things fbs id ids rest same held = (subst (AreHeld things fbs) same h
 
 -- the stores tell the same of a machine whatever references there are
 pub tells_still : (t : Topology) (m : Machine) (first made : Made) (present : Duplicates) (registers : RegisterFile) (tracker : Tracking)
-    (crtcs : ℕ) → OnlyFbs first made → TellNeeds t m first present registers tracker crtcs → TellNeeds t m made present registers tracker crtcs
+    (crtcs : ℕ) → OnlyFbs first made → TellNeeds t m first present registers tracker crtcs
+    → TellNeeds t m made present registers tracker crtcs
 tells_still t m first made present registers tracker crtcs only tell =
     subst (λ z. TellNeeds t m z present registers tracker crtcs) (sym only)
     (record {

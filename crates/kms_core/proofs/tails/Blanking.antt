@@ -190,8 +190,10 @@ blanks_for r v st k crtc stands same asked is =
       kept = false_from_ne_true _ (λ yes. both_bools _ (T.marks.cleaned k c yes f.is_crtc f.names) pending.unlatched);
     }
 
-blank_tail : (r : Run) (st : Stores) (k crtc : ℕ) → Stands r st → BlanksFor r k crtc → FoundTail r.script.topology (machine r).device.commits (machine r).device.marks (machine r).records.latches st.tracker k
-blank_tail r st k crtc stands B = found_tail r.script.topology (machine r).device.commits (machine r).device.marks (machine r).records.latches st.tracker k B.within B.kept stands.stores.tracker
+blank_tail : (r : Run) (st : Stores) (k crtc : ℕ) → Stands r st → BlanksFor r k crtc
+    → FoundTail r.script.topology (machine r).device.commits (machine r).device.marks (machine r).records.latches st.tracker k
+blank_tail r st k crtc stands B = found_tail r.script.topology (machine r).device.commits (machine r).device.marks
+    (machine r).records.latches st.tracker k B.within B.kept stands.stores.tracker
 
 pub blank_latches : (r v : Run) (st : Stores) (k crtc count : ℕ) (picture : Picture) → Stands r st → r ≡ v → MayBlank v crtc → slice_index_or st.goes crtc None ≡ Some k
     → IsLatching st.tracker st.queues (record { crtc = crtc; commit = k; count = count; picture = picture })
@@ -202,7 +204,8 @@ blank_latches r v st k crtc count picture stands same asked is =
     let F = facts r st stands in
     let C = commits_sound s r.steps (plain-from s stands.formed) stands.history k B.within in
     let l : Latch = record { crtc = crtc; commit = k; count = count; picture = picture } in
-    is_latching s.topology m.device.commits m.device.marks m.records.latches m.events st.tracker st.queues (length s.clients) l (blank_tail r st k crtc stands B) stands.stores.queues C.low C.high
+    is_latching s.topology m.device.commits m.device.marks m.records.latches m.events st.tracker st.queues (length s.clients) l
+    (blank_tail r st k crtc stands B) stands.stores.queues C.low C.high
     (reserved_some F.holds.tail k (object_id Crtc crtc) count l B.is_crtc B.flushed B.unlatched refl refl refl m.events F.events)
 
 record IsBlankFor (s : Script) (m : Machine) (k crtc : ℕ) (n : Machine) : Type 0 where
@@ -225,21 +228,26 @@ count_blanked t d c true = read_same 0 d.counts c (count_at d c + 1)
 count_blanked t d c false = read_same 0 d.counts c (count_at d c + 1)
 
 -- what the calls leave of the stores
-pub record HasBlanked (st : Stores) (k crtc : ℕ) (count : ℕ) (picture : Picture) (new : RegisterFile) (tracker : Tracking) (fences : FenceSet) (queues : List Queue) (shown : List Latch) : Type 0 where
+pub record HasBlanked (st : Stores) (k crtc : ℕ) (count : ℕ) (picture : Picture) (new : RegisterFile) (tracker : Tracking)
+    (fences : FenceSet) (queues : List Queue) (shown : List Latch) : Type 0 where
   pub go : slice_index_or st.goes crtc None ≡ Some k
   pub blanks : Blanks st.registers new crtc
   pub tells : TellsBlank st.registers crtc (Some picture)
   pub counted : (t : Topology) (d : DeviceState) → StandsForDevice t d new → count ≡ count_at d (object_id Crtc crtc)
-  pub told : LatchIsTold st.tracker tracker st.fences fences st.queues queues (record { crtc = crtc; commit = k; count = count; picture = picture })
+  pub told : LatchIsTold st.tracker tracker st.fences fences st.queues queues
+      (record { crtc = crtc; commit = k; count = count; picture = picture })
   pub recorded : shown ≡ st.latches.items ++ record { crtc = crtc; commit = k; count = count; picture = picture } ∷ []
 
-pub blanks_with : (r v : Run) (st : Stores) (k crtc count : ℕ) (picture : Picture) (new : RegisterFile) (tracker : Tracking) (fences : FenceSet) (queues : List Queue) (shown : Logged Latch) (steps : List Step)
-    → Stands r st → r ≡ v → MayBlank v crtc → steps ≡ r.steps ++ step.Vblank Crtc crtc ∷ [] → HasBlanked st k crtc count picture new tracker fences queues shown.items
+pub blanks_with : (r v : Run) (st : Stores) (k crtc count : ℕ) (picture : Picture) (new : RegisterFile) (tracker : Tracking)
+    (fences : FenceSet) (queues : List Queue) (shown : Logged Latch) (steps : List Step)
+    → Stands r st → r ≡ v → MayBlank v crtc → steps ≡ r.steps ++ step.Vblank Crtc crtc ∷ []
+    → HasBlanked st k crtc count picture new tracker fences queues shown.items
     → (ids : List ℕ) (freed : Reserved (ℕ × ℕ)) (made : Made)
     → AreAllOf ids (λ id. picture_names id (decoded_picture r.script.topology (machine r).device.live (object_id Crtc crtc)))
     → Frees st.made made st.present new tracker r.script.topology.crtcs ids st.freed freed
     → Stands (record { script = r.script; steps = steps })
-    (record st { latches = shown; fences = fences; queues = queues; tracker = tracker; registers = new; goes = slice_set st.goes crtc None; freed = freed; made = made })
+    (record st { latches = shown; fences = fences; queues = queues; tracker = tracker; registers = new; goes = slice_set st.goes crtc None;
+    freed = freed; made = made })
 blanks_with r v st k crtc count picture new tracker fences queues shown steps stands same asked more has ids freed made all frees =
     let s = r.script in
     let t = s.topology in
@@ -257,7 +265,8 @@ blanks_with r v st k crtc count picture new tracker fences queues shown steps st
     let picture_is : picture ≡ latched_picture t d c = picture_from (go_at d c) (latched_picture t d c) picture (has.tells t d S.registers) in
     let one : n.records.latches ≡ l ∷ m.records.latches =
     registers_follow.vblank_recorded s m k crtc B.go ∙ (λ i. record { crtc = sym index_is i; commit = k; count = sym count_is i; picture = sym picture_is i } ∷ m.records.latches) in
-    goes_latching r st (record st { latches = shown; fences = fences; queues = queues; tracker = tracker; registers = new; goes = slice_set st.goes crtc None }) (step.Vblank Crtc crtc) c ids freed made
+    goes_latching r st (record st { latches = shown; fences = fences; queues = queues; tracker = tracker; registers = new;
+    goes = slice_set st.goes crtc None }) (step.Vblank Crtc crtc) c ids freed made
     (latches_by s m n c l
     (changes s m (step.Vblank Crtc crtc) (blanks_legal r v crtc same asked)) index_is B.is_crtc one) all frees refl steps more stands
     (blanks_legal r v crtc same asked)
@@ -291,7 +300,8 @@ few_blanked r v st k crtc stands same asked is =
       commits = m.device.commits;
       marks = m.device.marks;
       latches = l ∷ m.records.latches;
-      stand = latched_stands r.script.topology m.device.commits m.device.marks m.records.latches st.tracker k B.within stands.stores.tracker l refl B.low;
+      stand = latched_stands r.script.topology m.device.commits m.device.marks m.records.latches st.tracker k B.within
+          stands.stores.tracker l refl B.low;
       few = omega (arith, fit);
     }
 

@@ -154,9 +154,12 @@ active_is r st k crtc stands N = shadow_flushed r.script.topology (machine r).de
 
 -- A CRTC that is on after the commit
 
-pub flushes_on : (r v : Run) (st : Stores) (k crtc : ℕ) (shown : Logged Latch) (new : RegisterFile) (u : Tracking) (before steps : List Step) → Stands r st → r ≡ v → MayFlush v k crtc → before ≡ r.steps → steps ≡ before ++ step.Flush k Crtc crtc ∷ []
-    → shown.items ≡ st.latches.items → u ≡ marked st.tracker k (mark.Flushed crtc) → Flushes st.registers new crtc → TellsPicture st.registers crtc None
-    → Stands (record { script = r.script; steps = steps }) (record st { latches = shown; tracker = u; registers = new; goes = slice_set st.goes crtc (Some k) })
+pub flushes_on : (r v : Run) (st : Stores) (k crtc : ℕ) (shown : Logged Latch) (new : RegisterFile) (u : Tracking)
+    (before steps : List Step) → Stands r st → r ≡ v → MayFlush v k crtc → before ≡ r.steps → steps ≡ before ++ step.Flush k Crtc crtc ∷ []
+    → shown.items ≡ st.latches.items → u ≡ marked st.tracker k (mark.Flushed crtc) → Flushes st.registers new crtc
+    → TellsPicture st.registers crtc None
+    → Stands (record { script = r.script; steps = steps })
+    (record st { latches = shown; tracker = u; registers = new; goes = slice_set st.goes crtc (Some k) })
 flushes_on r v st k crtc shown new u before steps stands same asked was more is after flushes tells =
     let s = r.script in
     let m = machine r in
@@ -188,20 +191,24 @@ abbrev flushed_marks : ℕ → ℕ → Marks → Marks
 flushed_marks k crtc marks = record marks { flushed = (k, object_id Crtc crtc) ∷ marks.flushed }
 
 -- the tracker once the flush is marked
-flush_marked : (r : Run) (st : Stores) (k crtc : ℕ) (u : Tracking) → Stands r st → FlushesNext r k crtc → u ≡ marked st.tracker k (mark.Flushed crtc)
+flush_marked : (r : Run) (st : Stores) (k crtc : ℕ) (u : Tracking) → Stands r st → FlushesNext r k crtc
+    → u ≡ marked st.tracker k (mark.Flushed crtc)
     → IsTrackerOf r.script.topology (machine r).device.commits (flushed_marks k crtc (machine r).device.marks) (machine r).records.latches u
 flush_marked r st k crtc u stands N after =
     rw after (flushed_stands r.script.topology (machine r).device.commits (machine r).device.marks (machine r).records.latches st.tracker k
     N.within stands.stores.tracker crtc N.low)
 
 -- the tail of the commit then
-pub flushed_tail : (r : Run) (st : Stores) (k crtc : ℕ) (u : Tracking) → Stands r st → FlushesNext r k crtc → u ≡ marked st.tracker k (mark.Flushed crtc)
+pub flushed_tail : (r : Run) (st : Stores) (k crtc : ℕ) (u : Tracking) → Stands r st → FlushesNext r k crtc
+    → u ≡ marked st.tracker k (mark.Flushed crtc)
     → FoundTail r.script.topology (machine r).device.commits (flushed_marks k crtc (machine r).device.marks) (machine r).records.latches u k
 flushed_tail r st k crtc u stands N after =
-    found_tail r.script.topology (machine r).device.commits (flushed_marks k crtc (machine r).device.marks) (machine r).records.latches u k N.within N.kept
+    found_tail r.script.topology (machine r).device.commits (flushed_marks k crtc (machine r).device.marks)
+    (machine r).records.latches u k N.within N.kept
     (flush_marked r st k crtc u stands N after)
 
-pub flush_latches : (r v : Run) (st : Stores) (k crtc count : ℕ) (picture : Picture) (u : Tracking) → Stands r st → r ≡ v → MayFlush v k crtc → u ≡ marked st.tracker k (mark.Flushed crtc)
+pub flush_latches : (r v : Run) (st : Stores) (k crtc count : ℕ) (picture : Picture) (u : Tracking) → Stands r st → r ≡ v
+    → MayFlush v k crtc → u ≡ marked st.tracker k (mark.Flushed crtc)
     → IsLatching u st.queues (record { crtc = crtc; commit = k; count = count; picture = picture })
 flush_latches r v st k crtc count picture u stands same asked after =
     let s = r.script in
@@ -210,7 +217,8 @@ flush_latches r v st k crtc count picture u stands same asked after =
     let F = facts r st stands in
     let C = commits_sound s r.steps (plain-from s stands.formed) stands.history k N.within in
     let l : Latch = record { crtc = crtc; commit = k; count = count; picture = picture } in
-    is_latching s.topology m.device.commits (flushed_marks k crtc m.device.marks) m.records.latches m.events u st.queues (length s.clients) l (flushed_tail r st k crtc u stands N after) stands.stores.queues C.low C.high
+    is_latching s.topology m.device.commits (flushed_marks k crtc m.device.marks) m.records.latches m.events u st.queues
+    (length s.clients) l (flushed_tail r st k crtc u stands N after) stands.stores.queues C.low C.high
     (reserved_some (flushed_holds s m F.holds k (object_id Crtc crtc) N.all_written N.flush).tail k (object_id Crtc crtc) count l N.flush.is_crtc (pair_now k (object_id Crtc crtc) m.device.marks.flushed) N.flushed.unlatched refl refl refl m.events F.events)
 
 count_flushed : (t : Topology) (d : DeviceState) (k c : ℕ) (b : Bool) → count_at (if b then record d { go = (c, Some k) ∷ d.go } else latched_device t d c) c ≡ count_at d c
@@ -218,7 +226,8 @@ count_flushed t d k c true = refl
 count_flushed t d k c false = refl
 
 -- what the calls leave of the stores
-pub record HasFlushedOff (st : Stores) (k crtc : ℕ) (count : ℕ) (picture : Picture) (new : RegisterFile) (u tracker : Tracking) (fences : FenceSet) (queues : List Queue) (shown : List Latch) : Type 0 where
+pub record HasFlushedOff (st : Stores) (k crtc : ℕ) (count : ℕ) (picture : Picture) (new : RegisterFile) (u tracker : Tracking)
+    (fences : FenceSet) (queues : List Queue) (shown : List Latch) : Type 0 where
   pub flushes : Flushes st.registers new crtc
   pub tells : TellsPicture st.registers crtc (Some picture)
   pub latched : (t : Topology) (d : DeviceState) → StandsForDevice t d st.registers → picture ≡ latched_picture t d (object_id Crtc crtc)
@@ -227,8 +236,10 @@ pub record HasFlushedOff (st : Stores) (k crtc : ℕ) (count : ℕ) (picture : P
   pub told : LatchIsTold u tracker st.fences fences st.queues queues (record { crtc = crtc; commit = k; count = count; picture = picture })
   pub recorded : shown ≡ st.latches.items ++ record { crtc = crtc; commit = k; count = count; picture = picture } ∷ []
 
-pub flushes_off : (r v : Run) (st : Stores) (k crtc count : ℕ) (picture : Picture) (new : RegisterFile) (u tracker : Tracking) (fences : FenceSet) (queues : List Queue) (shown : Logged Latch) (steps : List Step)
-    → Stands r st → r ≡ v → MayFlush v k crtc → steps ≡ r.steps ++ step.Flush k Crtc crtc ∷ [] → HasFlushedOff st k crtc count picture new u tracker fences queues shown.items
+pub flushes_off : (r v : Run) (st : Stores) (k crtc count : ℕ) (picture : Picture) (new : RegisterFile) (u tracker : Tracking)
+    (fences : FenceSet) (queues : List Queue) (shown : Logged Latch) (steps : List Step)
+    → Stands r st → r ≡ v → MayFlush v k crtc → steps ≡ r.steps ++ step.Flush k Crtc crtc ∷ []
+    → HasFlushedOff st k crtc count picture new u tracker fences queues shown.items
     → (ids : List ℕ) (freed : Reserved (ℕ × ℕ)) (made : Made)
     → AreAllOf ids (λ id. picture_names id (decoded_picture r.script.topology (machine r).device.live (object_id Crtc crtc)))
     → Frees st.made made st.present new tracker r.script.topology.crtcs ids st.freed freed

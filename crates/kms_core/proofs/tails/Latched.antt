@@ -96,7 +96,8 @@ latches_go t m k crtc count =
 
 -- All stores
 
-pub record AreShown (s : Script) (m n : Machine) (latched : Logged Latch) (fences : FenceSet) (queues : List Queue) (tracker : Tracking) (registers : RegisterFile) (goes : List (Option ℕ)) : Type 0 where
+pub record AreShown (s : Script) (m n : Machine) (latched : Logged Latch) (fences : FenceSet) (queues : List Queue) (tracker : Tracking)
+    (registers : RegisterFile) (goes : List (Option ℕ)) : Type 0 where
   pub same : SameParts m n
   pub recorded : latched.items ≡ reverse n.records.latches
   pub signalled : AreFencesOf fences n.device.signalled
@@ -106,9 +107,12 @@ pub record AreShown (s : Script) (m n : Machine) (latched : Logged Latch) (fence
   pub written : StandsForDevice s.topology n.device registers
   pub going : AreGoing n.device goes
 
-pub stands_shown : (s : Script) (m n : Machine) (st : Stores) (latched : Logged Latch) (fences : FenceSet) (queues : List Queue) (tracker : Tracking) (registers : RegisterFile) (goes : List (Option ℕ))
-    → AreShown s m n latched fences queues tracker registers goes → ((id : ℕ) → is_made st.fences id ≡ true → is_made fences id ≡ true) → StandsAt s m st
-    → StandsAt s n (record st { latches = latched; fences = fences; queues = queues; tracker = tracker; registers = registers; goes = goes })
+pub stands_shown : (s : Script) (m n : Machine) (st : Stores) (latched : Logged Latch) (fences : FenceSet) (queues : List Queue)
+    (tracker : Tracking) (registers : RegisterFile) (goes : List (Option ℕ))
+    → AreShown s m n latched fences queues tracker registers goes
+    → ((id : ℕ) → is_made st.fences id ≡ true → is_made fences id ≡ true) → StandsAt s m st
+    → StandsAt s n (record st { latches = latched; fences = fences; queues = queues; tracker = tracker;
+    registers = registers; goes = goes })
 stands_shown s m n st latched fences queues tracker registers goes shown more stands =
     let S = shown.same in
     record {
@@ -170,8 +174,10 @@ queues_told t m n clients k crtc count queues L low high stand =
     }
 
 -- one is delivered
-pub delivered_one : (x : CommitTail) (l : Latch) (queues : List Queue) (q new : Queue) (crtc : ℕ) → x.signals.wants_event ≡ true → q ≡ queue_of queues x.signals.client → crtc ≡ object_id Crtc l.crtc
-    → new ≡ delivers q (record { user_data = x.signals.user_data; sequence = l.count % 4294967296; crtc = crtc }) → slice_set queues (x.signals.client - 1) new ≡ told_if x.signals.wants_event x.signals.client (event_told x l) queues
+pub delivered_one : (x : CommitTail) (l : Latch) (queues : List Queue) (q new : Queue) (crtc : ℕ) → x.signals.wants_event ≡ true
+    → q ≡ queue_of queues x.signals.client → crtc ≡ object_id Crtc l.crtc
+    → new ≡ delivers q (record { user_data = x.signals.user_data; sequence = l.count % 4294967296; crtc = crtc })
+    → slice_set queues (x.signals.client - 1) new ≡ told_if x.signals.wants_event x.signals.client (event_told x l) queues
 delivered_one x l queues q new crtc wants found id delivered = rw (wants, delivered, found, id) refl
 
 -- GO
@@ -201,14 +207,16 @@ pub record FoundTail (t : Topology) (commits : List Commit) (marks : Marks) (lat
   pub found : tail_of u k ≡ Some tail
   pub is : IsTailOf t commits marks latches k tail
 
-pub found_tail : (t : Topology) (commits : List Commit) (marks : Marks) (latches : List Latch) (u : Tracking) (k : ℕ) → k < length commits → has_number marks.cleaned k ≡ false → IsTrackerOf t commits marks latches u
+pub found_tail : (t : Topology) (commits : List Commit) (marks : Marks) (latches : List Latch) (u : Tracking) (k : ℕ) → k < length commits
+    → has_number marks.cleaned k ≡ false → IsTrackerOf t commits marks latches u
     → FoundTail t commits marks latches u k
 found_tail t commits marks latches u k within kept stand = at (tail_of u k) refl (stand.kept k within) where
   at : (o : Option CommitTail) → tail_of u k ≡ o → IsKept t commits marks latches k o → FoundTail t commits marks latches u k
   at None is over = absurd (both_bools _ over.0 kept)
   at (Some x) is both = record { tail = x; found = is; is = both.1 }
 
-pub is_latching : (t : Topology) (commits : List Commit) (marks : Marks) (latches : List Latch) (events : Events) (u : Tracking) (queues : List Queue) (clients : ℕ) (l : Latch) → FoundTail t commits marks latches u l.commit
+pub is_latching : (t : Topology) (commits : List Commit) (marks : Marks) (latches : List Latch) (events : Events) (u : Tracking)
+    (queues : List Queue) (clients : ℕ) (l : Latch) → FoundTail t commits marks latches u l.commit
     → AreQueues clients events queues → 1 ≤ (commit_at t commits l.commit).client → (commit_at t commits l.commit).client ≤ clients
     → (asks_event t commits l.commit ≡ true → 1 ≤ reserved_at events (commit_at t commits l.commit).client) → IsLatching u queues l
 is_latching t commits marks latches events u queues clients l f stand low high reserved =
@@ -227,13 +235,16 @@ is_latching t commits marks latches events u queues clients l f stand low high r
     }
 
 -- its out-fence at a CRTC
-pub fence_is : (t : Topology) (d : DeviceState) (k crtc : ℕ) (x : CommitTail) → crtc < 4 → ((i : ℕ) → i < 4 → slice_index_or x.signals.out_fences i None ≡ out_fence_at t (commit_at t d.commits k) i) → slice_index_or x.signals.out_fences crtc None ≡ out_fence_of t d.commits k (object_id Crtc crtc)
+pub fence_is : (t : Topology) (d : DeviceState) (k crtc : ℕ) (x : CommitTail) → crtc < 4
+    → ((i : ℕ) → i < 4 → slice_index_or x.signals.out_fences i None ≡ out_fence_at t (commit_at t d.commits k) i)
+    → slice_index_or x.signals.out_fences crtc None ≡ out_fence_of t d.commits k (object_id Crtc crtc)
 unfolding out_fence_of
 fence_is t d k crtc x low fences = fences crtc low
 
 -- A latch
 
-pub record HasLatched (s : Script) (m n : Machine) (st : Stores) (count : ℕ) (marks : Marks) (u tracker : Tracking) (fences : FenceSet) (queues : List Queue) (shown : Logged Latch) (l : Latch) : Type 0 where
+pub record HasLatched (s : Script) (m n : Machine) (st : Stores) (count : ℕ) (marks : Marks) (u tracker : Tracking) (fences : FenceSet)
+    (queues : List Queue) (shown : Logged Latch) (l : Latch) : Type 0 where
   pub low : l.crtc < 4
   pub within : l.commit < length m.device.commits
   pub found : FoundTail s.topology m.device.commits marks m.records.latches u l.commit
@@ -245,10 +256,13 @@ pub record HasLatched (s : Script) (m n : Machine) (st : Stores) (count : ℕ) (
   pub told : LatchIsTold u tracker st.fences fences st.queues queues l
   pub latched : shown.items ≡ st.latches.items ++ l ∷ []
 
-pub latched_shown : (r : Run) (n : Machine) (st : Stores) (count : ℕ) (marks : Marks) (u tracker : Tracking) (fences : FenceSet) (queues : List Queue) (shown : Logged Latch) (l : Latch) (registers : RegisterFile) (goes : List (Option ℕ))
-    → HasLatched r.script (machine r) n st count marks u tracker fences queues shown l → IsTrackerOf r.script.topology n.device.commits n.device.marks n.records.latches tracker
+pub latched_shown : (r : Run) (n : Machine) (st : Stores) (count : ℕ) (marks : Marks) (u tracker : Tracking) (fences : FenceSet)
+    (queues : List Queue) (shown : Logged Latch) (l : Latch) (registers : RegisterFile) (goes : List (Option ℕ))
+    → HasLatched r.script (machine r) n st count marks u tracker fences queues shown l
+    → IsTrackerOf r.script.topology n.device.commits n.device.marks n.records.latches tracker
     → StandsForDevice r.script.topology n.device registers → AreGoing n.device goes → Stands r st
-    → StandsAt r.script n (record st { latches = shown; fences = fences; queues = queues; tracker = tracker; registers = registers; goes = goes })
+    → StandsAt r.script n (record st
+    { latches = shown; fences = fences; queues = queues; tracker = tracker; registers = registers; goes = goes })
 latched_shown r n st count marks u tracker fences queues shown l registers goes H tracked written going stand =
     let s = r.script in
     let t = s.topology in
@@ -260,9 +274,13 @@ latched_shown r n st count marks u tracker fences queues shown l registers goes 
     let x = H.found.tail in
     let is = H.found.is in
     let fence = out_fence_of t m.device.commits k c in
-    let set : fences ≡ with_signal st.fences fence = H.told.fences x H.found.found ∙ ap (with_signal st.fences) (fence_is t m.device k l.crtc x H.low is.signals.out_fences) in
-    let event : event_told x l ≡ event_of t m k c count = λ i. record { user_data = is.signals.user_data i; sequence = H.counted i % 2 ^ 32; crtc = c } in
-    let told : queues ≡ told_if (asks_event t m.device.commits k) (client_of t m k) (event_of t m k c count) st.queues = H.told.queues x H.found.found ∙ (λ i. told_if (is.signals.event i) (is.signals.client i) (event i) st.queues) in
+    let set : fences ≡ with_signal st.fences fence = H.told.fences x H.found.found
+    ∙ ap (with_signal st.fences) (fence_is t m.device k l.crtc x H.low is.signals.out_fences) in
+    let event : event_told x l ≡ event_of t m k c count =
+    λ i. record { user_data = is.signals.user_data i; sequence = H.counted i % 2 ^ 32; crtc = c } in
+    let told : queues ≡ told_if (asks_event t m.device.commits k) (client_of t m k)
+    (event_of t m k c count) st.queues = H.told.queues x H.found.found
+    ∙ (λ i. told_if (is.signals.event i) (is.signals.client i) (event i) st.queues) in
     let made : (id : ℕ) → fence ≡ Some id → is_made st.fences id ≡ true = λ id is. stands.out_fenced k l.crtc id H.within H.low is in
     stands_shown s m n st shown fences queues tracker registers goes
     (record {

@@ -91,7 +91,8 @@ pub record HasForgotten (k : ℕ) (old new : Tracking) : Type 0 where
 
 pub forgotten : (r v : Run) (st : Stores) (k : ℕ) (tracker : Tracking) → Stands r st → r ≡ v → MayCleanUp v k → is_commit_over r k ≡ true
     → HasForgotten k st.tracker tracker
-    → IsTrackerOf r.script.topology (machine r).device.commits (record (machine r).device.marks { cleaned = k ∷ (machine r).device.marks.cleaned })
+    → IsTrackerOf r.script.topology (machine r).device.commits
+    (record (machine r).device.marks { cleaned = k ∷ (machine r).device.marks.cleaned })
     (machine r).records.latches tracker
 unfolding next
 forgotten r v st k tracker stands same asked is_now forgot =
@@ -114,9 +115,11 @@ cleans_up r v st k tracker before steps stands same asked is_now was more forgot
     (forgotten r v st k tracker stands same asked is_now forgot) stands.stores)
 
 -- the tail tells whether a commit is over
-pub over_told : (r v : Run) (st : Stores) (k : ℕ) → Stands r st → r ≡ v → MayCleanUp v k → (over : Bool) → TellsOver st.tracker k over → over ≡ is_commit_over v k
+pub over_told : (r v : Run) (st : Stores) (k : ℕ) → Stands r st → r ≡ v → MayCleanUp v k → (over : Bool) → TellsOver st.tracker k over
+    → over ≡ is_commit_over v k
 over_told r v st k stands same asked over tells =
-    tells r.script.topology (machine r).device (machine r).records.latches stands.formed.device (claimed_within r v st k stands same asked) (subst (λ (x : Run). MayCleanUp x k) (sym same) asked).kept stands.stores.tracker
+    tells r.script.topology (machine r).device (machine r).records.latches stands.formed.device (claimed_within r v st k stands same asked)
+    (subst (λ (x : Run). MayCleanUp x k) (sym same) asked).kept stands.stores.tracker
     ∙ ap (λ (x : Run). is_commit_over x k) same
 
 -- where the tail tells so, the cleanup is a step of the commit's own
@@ -124,7 +127,8 @@ pub record OwnsCleanup (r : Run) (k : ℕ) : Type 0 where
   pub over : is_commit_over r k ≡ true
   pub own : IsOwn r (step.Cleanup k) k
 
-pub owns_cleanup : (r v : Run) (st : Stores) (k : ℕ) → Stands r st → r ≡ v → MayCleanUp v k → (over : Bool) → TellsOver st.tracker k over → over ≡ true → OwnsCleanup r k
+pub owns_cleanup : (r v : Run) (st : Stores) (k : ℕ) → Stands r st → r ≡ v → MayCleanUp v k → (over : Bool) → TellsOver st.tracker k over
+    → over ≡ true → OwnsCleanup r k
 owns_cleanup r v st k stands same asked over tells told =
     let is = ap (λ (w : Run). is_commit_over w k) same ∙ sym (over_told r v st k stands same asked over tells) ∙ told in
     record { over = is; own = own_step r st (step.Cleanup k) k stands refl refl (cleanup_legal r k (subst (λ (w : Run). MayCleanUp w k) (sym same) asked) is) }
@@ -132,10 +136,13 @@ owns_cleanup r v st k stands same asked over tells told =
 -- What is freed
 
 -- its states name what the commit keeps
-pub tail_keeps_all : (r v : Run) (st : Stores) (k : ℕ) (x : Tail) (found ids : List ℕ) → Stands r st → r ≡ v → MayCleanUp v k → Some x ≡ tail_of st.tracker k
-    → WhereverOf x (λ t d latches k. AreAllOf found (λ id. commit_keeps t d id k)) → ids ≡ found → AreAllOf ids (λ id. commit_keeps r.script.topology (machine r).device id k)
+pub tail_keeps_all : (r v : Run) (st : Stores) (k : ℕ) (x : Tail) (found ids : List ℕ) → Stands r st → r ≡ v → MayCleanUp v k
+    → Some x ≡ tail_of st.tracker k
+    → WhereverOf x (λ t d latches k. AreAllOf found (λ id. commit_keeps t d id k)) → ids ≡ found
+    → AreAllOf ids (λ id. commit_keeps r.script.topology (machine r).device id k)
 tail_keeps_all r v st k x found ids stands same asked some all is =
-    let kept = subst (λ o. IsKept r.script.topology (machine r).device.commits (machine r).device.marks (machine r).records.latches k o) (sym some) (stands.stores.tracker.kept k (claimed_within r v st k stands same asked)) in
+    let kept = subst (λ o. IsKept r.script.topology (machine r).device.commits (machine r).device.marks (machine r).records.latches k o)
+    (sym some) (stands.stores.tracker.kept k (claimed_within r v st k stands same asked)) in
     rw is (all r.script.topology (machine r).device (machine r).records.latches k stands.formed.device kept.1)
 
 pub cleanup_places : (r v : Run) (st : Stores) (k : ℕ) (ids : List ℕ) → Stands r st → r ≡ v → MayCleanUp v k → AreAllOf ids (λ id. commit_keeps r.script.topology (machine r).device id k) → framebuffers_in st.made.things ids ≤ st.freed.places

@@ -262,14 +262,16 @@ plane_written old new index o found is holds writes both there =
 -- All stores stand after the write
 
 tail_holds : (r : Run) (st : Stores) (k : ℕ) (x : Tail) (kind : Kind) (index : ℕ) → Stands r st → index < count_of r.script.topology kind → IsWrite r.script.topology (machine r).device k (object_id kind index)
-    → IsTailOf r.script.topology (machine r).device.commits (machine r).device.marks (machine r).records.latches k x → HoldsOld st.registers x kind index
+    → IsTailOf r.script.topology (machine r).device.commits (machine r).device.marks (machine r).records.latches k x
+    → HoldsOld st.registers x kind index
 tail_holds r st k x Crtc index stands there W is = holds_crtc r st k x stands index is W there
 tail_holds r st k x Plane index stands there W is = holds_plane r st k x stands index is W there
 tail_holds r st k x Conn index stands there W is = no_others r.script.topology (object_id Conn index) (few_objects r.script.topology stands.formed.device) (omega arith) W.is_registered
 tail_holds r st k x Enc index stands there W is = no_others r.script.topology (object_id Enc index) (few_objects r.script.topology stands.formed.device) (omega arith) W.is_registered
 
 registers_stand : (r : Run) (st : Stores) (k : ℕ) (x : Tail) (kind : Kind) (index : ℕ) (new : RegisterFile) → Stands r st → index < count_of r.script.topology kind → IsWrite r.script.topology (machine r).device k (object_id kind index)
-    → IsTailOf r.script.topology (machine r).device.commits (machine r).device.marks (machine r).records.latches k x → IsWritten st.registers new x kind index
+    → IsTailOf r.script.topology (machine r).device.commits (machine r).device.marks (machine r).records.latches k x
+    → IsWritten st.registers new x kind index
     → StandsForDevice r.script.topology (next r.script (machine r) (step.Write k kind index)).device new
 registers_stand r st k x Crtc index new stands there W is written = crtc_stands r st k x stands index is W there new written
 registers_stand r st k x Plane index new stands there W is written = plane_stands r st k x stands index is W there new written
@@ -277,11 +279,13 @@ registers_stand r st k x Conn index new stands there W is written = absurd (no_o
 registers_stand r st k x Enc index new stands there W is written = absurd (no_others r.script.topology (object_id Enc index) (few_objects r.script.topology stands.formed.device) (omega arith) W.is_registered)
 
 -- the tail that was found is the commit's
-tail_is : (r : Run) (st : Stores) (k object : ℕ) (x : Tail) → Stands r st → IsWrite r.script.topology (machine r).device k object → Some x ≡ tail_of st.tracker k
+tail_is : (r : Run) (st : Stores) (k object : ℕ) (x : Tail) → Stands r st → IsWrite r.script.topology (machine r).device k object
+    → Some x ≡ tail_of st.tracker k
     → IsTailOf r.script.topology (machine r).device.commits (machine r).device.marks (machine r).records.latches k x
 tail_is r st k object x stands W finds = (kept_as r st k (Some x) stands (write_within r st k object stands W) finds).1
 
-pub holds_old : (r v : Run) (st : Stores) (k : ℕ) (id : ObjId) (x : Tail) → Stands r st → r ≡ v → MayWrite v k id → Some x ≡ tail_of st.tracker k → HoldsOld st.registers x (kind_of id.0) (index_of id.0)
+pub holds_old : (r v : Run) (st : Stores) (k : ℕ) (id : ObjId) (x : Tail) → Stands r st → r ≡ v → MayWrite v k id
+    → Some x ≡ tail_of st.tracker k → HoldsOld st.registers x (kind_of id.0) (index_of id.0)
 holds_old r v st k id x stands same asked finds =
     let N = writes_next r v k id same asked in
     tail_holds r st k x (kind_of id.0) (index_of id.0) stands N.there N.write (tail_is r st k (object_id (kind_of id.0) (index_of id.0)) x stands N.write finds)
@@ -301,7 +305,8 @@ writes_object r v st k id x new w before steps stands same asked finds was more 
     let is : w ≡ marked st.tracker k (wrote_mark object) = after ∙ ap (λ o. marked st.tracker k (wrote_mark o)) (sym N.is_object) in
     goes_on r st (record st { tracker = w; registers = new }) (write_step k id) refl refl refl steps
     (more ∙ ap (λ (xs : List Step). xs ++ write_step k id ∷ []) was) stands N.is_legal
-    (written_anew r.script (machine r) (written_registers t d k object) (record d.marks { written = (k, object) ∷ d.marks.written }) st w new
+    (written_anew r.script (machine r) (written_registers t d k object)
+    (record d.marks { written = (k, object) ∷ d.marks.written }) st w new
     (registers_stand r st k x kind index new stands N.there N.write (tail_is r st k object x stands N.write finds) written)
     (rw is (tracker_follows.write_follows r.script (machine r) k index kind (subst HasRegisters (sym N.is_object) registers) st.tracker
     N.is_legal stands.stores.tracker)) stands.stores)

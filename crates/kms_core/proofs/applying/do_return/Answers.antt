@@ -6,7 +6,10 @@ use Rattle.kms_core.proofs.Applied.{history_now, return_asked, return_done}
 use Rattle.kms_core.proofs.applying.do_return.Goals as goal
 
 pub return_from-requires : goal.return_from-requires
-return_from-requires c = return_asked c.args.core.now (history_now (run_in c.stores.inside) c.args.core.now (stores_of c.stores.inside) c.stores.invariant.stands (c.stores.view_is ∙ c.deref-stores.ensures ∙ c.core.view_is)) c.args.client c.requires
+return_from-requires c = return_asked c.args.core.now
+    (history_now (run_in c.stores.inside) c.args.core.now (stores_of c.stores.inside) c.stores.invariant.stands
+    (c.stores.view_is ∙ c.deref-stores.ensures ∙ c.core.view_is)) c.args.client c.requires
 
 pub returns : goal.returns
-returns c = record { history = c.in_ok-_over.ensures.history ∙ ap (λ b. gains c.args.core.now (return_step c.args.client b)) (c.in_ok-_over.ensures.answer ∙ return_done c.args.core.now c.args.client c.requires) }
+returns c = record { history = c.in_ok-_over.ensures.history ∙ ap (λ b. gains c.args.core.now (return_step c.args.client b))
+    (c.in_ok-_over.ensures.answer ∙ return_done c.args.core.now c.args.client c.requires) }

@@ -19,7 +19,8 @@ invariant_of-stores c =
     let room = c.in_err-make_commit_room.ensures in
     let stands =
     roomy r (stores_of c.stores.inside) c.args.client c.args.checked.now c.args.resolved.now c.stores.invariant.stands can c.make_commit_room.new.journal c.make_commit_room.new.replies c.make_commit_room.new.latches c.stores.inside.things c.make_commit_room.new.fences _ _ _
-    c.make_commit_room.new.queue c.make_commit_room.new.tracker c.make_commit_room.new.steps.items room.steps room.journal room.replies room.latches refl refl c.index_mut.ensures.value room.kept in
+    c.make_commit_room.new.queue c.make_commit_room.new.tracker c.make_commit_room.new.steps.items room.steps room.journal room.replies
+    room.latches refl refl c.index_mut.ensures.value room.kept in
     record { stands = stands; spare = still_spared _ _ _ _ _ _ room.steps c.stores.invariant.spare room.steps_kept room.latches_kept }
 
 pub make_out_fences-requires-clause-ids : goal.make_out_fences-requires-clause-ids
@@ -33,7 +34,8 @@ invariant_of-stores-in_err-make_out_fences c =
     let room = c.in_ok-make_commit_room.ensures in
     let stands =
     roomy r (stores_of c.stores.inside) c.args.client c.args.checked.now c.args.resolved.now c.stores.invariant.stands can c.make_commit_room.new.journal c.make_commit_room.new.replies c.make_commit_room.new.latches c.make_out_fences.new.things c.make_out_fences.new.fences _ _ _
-    c.make_commit_room.new.queue c.make_commit_room.new.tracker c.make_commit_room.new.steps.items room.steps room.journal room.replies room.latches c.in_err-make_out_fences.ensures.same_things
+    c.make_commit_room.new.queue c.make_commit_room.new.tracker c.make_commit_room.new.steps.items room.steps room.journal room.replies
+    room.latches c.in_err-make_out_fences.ensures.same_things
     (ap (λ (f : FenceSet). f.slots) c.in_err-make_out_fences.ensures.same_fences) c.index_mut.ensures.value room.kept in
     record { stands = stands; spare = still_spared _ _ _ _ _ _ room.steps c.stores.invariant.spare room.steps_kept room.latches_kept }
 
@@ -91,7 +93,8 @@ invariant_of-stores-2 c =
     let third = again r st c.args.client c.args.checked.now c.args.resolved.now before can c.make_commit_room.new.queue _ empty_queue refl in
     let stands =
     commits r st c.args.client c.args.checked.now c.args.resolved.now before can c.set_up-commit.result c.leave.new.clients c.reply_commit.new.journal c.reply_commit.new.replies c.make_out_fences.new.things c.present_after-stores-inside.result c.make_out_fences.new.fences
-    (slice_set c.stores.inside.queues.items (c.args.client - 1) c.make_commit_room.new.queue) c.reserve_events.new.queue c.set_up-commit.new.tracker
+    (slice_set c.stores.inside.queues.items (c.args.client - 1) c.make_commit_room.new.queue) c.reserve_events.new.queue
+    c.set_up-commit.new.tracker
     (record {
       number = c.set_up-commit.ensures.number ∙ c.in_ok-make_commit_room.ensures.kept.tracking.count;
       goes = λ e. c.leave.ensures.goes e m before.stores.clients;
@@ -115,7 +118,8 @@ invariant_of-stores-2 c =
           (map (λ f. f.1) c.args.resolved.now.in_fences))
           (c.signals_of-signals.ensures q (rw c.place-number.ensures is)
           ∙ ap (signals_for c.args.client q) (c.made_fences-out_fences.ensures
-          ∙ ap (λ xs. fences_under c.make_out_fences.new.things.things xs) (c.out_labels-labels.ensures ∙ ap labels_in c.as_slice.ensures.value)))
+          ∙ ap (λ xs. fences_under c.make_out_fences.new.things.things xs)
+          (c.out_labels-labels.ensures ∙ ap labels_in c.as_slice.ensures.value)))
           c.set_up-commit.ensures.set_up);
     })
     c.make_commit_room.new.steps.items c.push.new.self.items c.in_ok-make_commit_room.ensures.steps c.push.ensures.items in

@@ -8,7 +8,8 @@ use Rattle.kms_core.proofs.machine.Core.drained.Goals as goal
 pub returns-then-are_at_end : goal.returns-then-are_at_end
 returns-then-are_at_end c =
     drained_both c.deref-stores.result.now c.is_none.result (sym c.are_at_end.ensures ∙ c.if-are_at_end.true)
-    (cleaned_told (run_in c.stores.inside) c.deref-stores.result.now (stores_of c.stores.inside) c.first_from.result c.is_none.result c.stores.invariant.stands c.stores.view_is c.first_from.ensures.machine c.is_none.ensures)
+    (cleaned_told (run_in c.stores.inside) c.deref-stores.result.now (stores_of c.stores.inside) c.first_from.result c.is_none.result
+    c.stores.invariant.stands c.stores.view_is c.first_from.ensures.machine c.is_none.ensures)
     ∙ ap (λ (w : Run). is_drained w.script (machine w)) (c.deref-stores.ensures ∙ c.self.view_is)
 
 pub returns-else-are_at_end : goal.returns-else-are_at_end

@@ -10,4 +10,5 @@ returns c =
     let r = run_in c.stores.inside in
     c.stored.ensures
     ∙ told_info r.script.topology (machine r) (stores_of c.stores.inside).made.fbs c.args.id c.stores.invariant.stands.stored
-    ∙ ap (λ (w : Run). stored_framebuffer w.script.topology (machine w) c.args.id) (c.stores.view_is ∙ c.deref-stores.ensures ∙ c.self.view_is)
+    ∙ ap (λ (w : Run). stored_framebuffer w.script.topology (machine w) c.args.id)
+    (c.stores.view_is ∙ c.deref-stores.ensures ∙ c.self.view_is)

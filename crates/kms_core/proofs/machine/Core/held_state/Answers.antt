@@ -11,5 +11,6 @@ returns c =
     let lock : has_lock r.script.topology c.args.id.0 ≡ true = search rules in
     let holder : c.holder.result ≡ Some c.args.client = search rules in
     c.present_state.ensures
-    ∙ held_is r c.args.self.now (stores_of c.stores.inside) c.args.client c.args.id c.stores.invariant.stands (c.stores.view_is ∙ c.deref-stores.ensures ∙ c.self.view_is) lock
+    ∙ held_is r c.args.self.now (stores_of c.stores.inside) c.args.client c.args.id c.stores.invariant.stands
+    (c.stores.view_is ∙ c.deref-stores.ensures ∙ c.self.view_is) lock
     (sym (c.holder.ensures.holder (machine r) c.stores.invariant.stands.stores.clients) ∙ holder)

@@ -12,7 +12,8 @@ push-requires c =
     let r = run_in c.stores.inside in
     let st = stores_of c.stores.inside in
     let k = c.args.commit in
-    let own = own_step r st (HwDone k) k c.stores.invariant.stands refl refl (subst (λ (x : Run). MayBeDone x k) (sym (c.stores.view_is ∙ c.deref_mut-stores.ensures.value ∙ c.self.view_is)) c.requires) in
+    let own = own_step r st (HwDone k) k c.stores.invariant.stands refl refl
+    (subst (λ (x : Run). MayBeDone x k) (sym (c.stores.view_is ∙ c.deref_mut-stores.ensures.value ∙ c.self.view_is)) c.requires) in
     (own_room r st (HwDone k) k _ _ c.stores.invariant.stands own c.stores.invariant.spare).step
 
 pub invariant_of-stores : goal.invariant_of-stores
@@ -20,8 +21,10 @@ invariant_of-stores c =
     let r = run_in c.stores.inside in
     let st = stores_of c.stores.inside in
     let k = c.args.commit in
-    let own = own_step r st (HwDone k) k c.stores.invariant.stands refl refl (subst (λ (x : Run). MayBeDone x k) (sym (c.stores.view_is ∙ c.deref_mut-stores.ensures.value ∙ c.self.view_is)) c.requires) in
+    let own = own_step r st (HwDone k) k c.stores.invariant.stands refl refl
+    (subst (λ (x : Run). MayBeDone x k) (sym (c.stores.view_is ∙ c.deref_mut-stores.ensures.value ∙ c.self.view_is)) c.requires) in
     let stands =
-    ends_writing r c.args.self.now st k c.hw_done.new.self r.steps c.push.new.self.items c.stores.invariant.stands (c.stores.view_is ∙ c.deref_mut-stores.ensures.value ∙ c.self.view_is) c.requires
+    ends_writing r c.args.self.now st k c.hw_done.new.self r.steps c.push.new.self.items c.stores.invariant.stands
+    (c.stores.view_is ∙ c.deref_mut-stores.ensures.value ∙ c.self.view_is) c.requires
     refl c.push.ensures.items c.hw_done.ensures in
     record { stands = stands; spare = own_spared r st _ (HwDone k) k c.push.new.self.items _ _ _ c.stores.invariant.stands stands c.push.ensures.items own c.stores.invariant.spare c.push.ensures.room }

@@ -8,18 +8,31 @@ use Rattle.kms_core.proofs.next.Legals.{ended_told, legal_told, stall_told}
 use Rattle.kms_core.proofs.machine.Core.legal.Goals as goal
 
 pub returns-then-not-stores : goal.returns-then-not-stores
-returns-then-not-stores c = ap (λ x. not x && c.is_dead.result) (sym c.if-not-stores.true) ∙ stall_told c.args.self.now c.args.step.now c.stores.inside.stalled c.is_dead.result c.in-Stall.is (ended_told (run_in c.stores.inside) c.args.self.now (stores_of c.stores.inside) c.stores.invariant.stands (c.stores.view_is ∙ c.deref-stores.ensures ∙ c.self.view_is)) c.is_dead.ensures
+returns-then-not-stores c = ap (λ x. not x && c.is_dead.result) (sym c.if-not-stores.true)
+    ∙ stall_told c.args.self.now c.args.step.now c.stores.inside.stalled c.is_dead.result c.in-Stall.is
+    (ended_told (run_in c.stores.inside) c.args.self.now (stores_of c.stores.inside) c.stores.invariant.stands
+    (c.stores.view_is ∙ c.deref-stores.ensures ∙ c.self.view_is)) c.is_dead.ensures
 
 pub returns-else-not-stores : goal.returns-else-not-stores
 returns-else-not-stores c =
     ap not c.if-not-stores.false ∙ ap (λ x. not x && is_dead c.args.self.now.script (machine c.args.self.now)) (sym c.if-not-stores.false)
-    ∙ stall_told c.args.self.now c.args.step.now c.stores.inside.stalled (is_dead c.args.self.now.script (machine c.args.self.now)) c.in-Stall.is (ended_told (run_in c.stores.inside) c.args.self.now (stores_of c.stores.inside) c.stores.invariant.stands (c.stores.view_is ∙ c.deref-stores.ensures ∙ c.self.view_is)) refl
+    ∙ stall_told c.args.self.now c.args.step.now c.stores.inside.stalled
+    (is_dead c.args.self.now.script (machine c.args.self.now)) c.in-Stall.is
+    (ended_told (run_in c.stores.inside) c.args.self.now (stores_of c.stores.inside) c.stores.invariant.stands
+    (c.stores.view_is ∙ c.deref-stores.ensures ∙ c.self.view_is)) refl
 
 pub returns-then-not-stores-2 : goal.returns-then-not-stores-2
-returns-then-not-stores-2 c = ap (λ x. not x && c.may.result) (sym c.if-not-stores-2.true) ∙ legal_told c.deref-stores.result.now c.args.step.now c.stores.inside.stalled c.may.result c.in_default.not-Stall (ended_told (run_in c.stores.inside) c.deref-stores.result.now (stores_of c.stores.inside) c.stores.invariant.stands c.stores.view_is) c.may.ensures
+returns-then-not-stores-2 c = ap (λ x. not x && c.may.result) (sym c.if-not-stores-2.true)
+    ∙ legal_told c.deref-stores.result.now c.args.step.now c.stores.inside.stalled c.may.result c.in_default.not-Stall
+    (ended_told (run_in c.stores.inside) c.deref-stores.result.now (stores_of c.stores.inside) c.stores.invariant.stands c.stores.view_is)
+    c.may.ensures
     ∙ ap (λ (w : Run). legal w.script (machine w) c.args.step.now) (c.deref-stores.ensures ∙ c.self.view_is)
 
 pub returns-else-not-stores-2 : goal.returns-else-not-stores-2
 returns-else-not-stores-2 c =
-    ap not c.if-not-stores-2.false ∙ ap (λ x. not x && may c.args.self.now.script (machine c.args.self.now) c.args.step.now) (sym c.if-not-stores-2.false)
-    ∙ legal_told c.args.self.now c.args.step.now c.stores.inside.stalled (may c.args.self.now.script (machine c.args.self.now) c.args.step.now) c.in_default.not-Stall (ended_told (run_in c.stores.inside) c.args.self.now (stores_of c.stores.inside) c.stores.invariant.stands (c.stores.view_is ∙ c.deref-stores.ensures ∙ c.self.view_is)) refl
+    ap not c.if-not-stores-2.false ∙ ap (λ x. not x && may c.args.self.now.script (machine c.args.self.now) c.args.step.now)
+    (sym c.if-not-stores-2.false)
+    ∙ legal_told c.args.self.now c.args.step.now c.stores.inside.stalled
+    (may c.args.self.now.script (machine c.args.self.now) c.args.step.now) c.in_default.not-Stall
+    (ended_told (run_in c.stores.inside) c.args.self.now (stores_of c.stores.inside) c.stores.invariant.stands
+    (c.stores.view_is ∙ c.deref-stores.ensures ∙ c.self.view_is)) refl

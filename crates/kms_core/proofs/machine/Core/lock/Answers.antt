@@ -7,7 +7,9 @@ use Rattle.kms_core.proofs.stores.Spared.{other_spared, same_le, still_spared}
 use Rattle.kms_core.proofs.machine.Core.lock.Goals as goal
 
 pub lock-answer-requires-clause-taking : goal.lock-answer-requires-clause-taking
-lock-answer-requires-clause-taking c = (asks (run_in c.stores.inside) c.args.self.now (stores_of c.stores.inside) c.args.t c.args.id c.in-Some.client c.stores.invariant.stands (c.stores.view_is ∙ c.deref_mut-stores.ensures.value ∙ c.self.view_is) c.requires c.in-Some.ensures.some).place
+lock-answer-requires-clause-taking c =
+    (asks (run_in c.stores.inside) c.args.self.now (stores_of c.stores.inside) c.args.t c.args.id c.in-Some.client c.stores.invariant.stands
+    (c.stores.view_is ∙ c.deref_mut-stores.ensures.value ∙ c.self.view_is) c.requires c.in-Some.ensures.some).place
 
 pub invariant_of-stores-then-not-is_step : goal.invariant_of-stores-then-not-is_step
 invariant_of-stores-then-not-is_step c =
@@ -21,9 +23,12 @@ returns-then-not-is_step-clause-answer c = λ client taking.
     let r = run_in c.stores.inside in
     let st = stores_of c.stores.inside in
     c.locked_as.ensures
-    ∙ lock_answered r c.args.self.now st c.args.t c.args.id c.in-Some.client c.in-Some-present_state.state c.lock-answer.result c.stores.invariant.stands (c.stores.view_is ∙ c.deref_mut-stores.ensures.value ∙ c.self.view_is)
-    (asks r c.args.self.now st c.args.t c.args.id c.in-Some.client c.stores.invariant.stands (c.stores.view_is ∙ c.deref_mut-stores.ensures.value ∙ c.self.view_is) c.requires c.in-Some.ensures.some)
-    (locks_of r c.args.self.now st c.args.t c.args.id c.in-Some.client c.stores.invariant.stands (c.stores.view_is ∙ c.deref_mut-stores.ensures.value ∙ c.self.view_is) c.requires c.in-Some.ensures.some)
+    ∙ lock_answered r c.args.self.now st c.args.t c.args.id c.in-Some.client c.in-Some-present_state.state c.lock-answer.result
+    c.stores.invariant.stands (c.stores.view_is ∙ c.deref_mut-stores.ensures.value ∙ c.self.view_is)
+    (asks r c.args.self.now st c.args.t c.args.id c.in-Some.client c.stores.invariant.stands
+    (c.stores.view_is ∙ c.deref_mut-stores.ensures.value ∙ c.self.view_is) c.requires c.in-Some.ensures.some)
+    (locks_of r c.args.self.now st c.args.t c.args.id c.in-Some.client c.stores.invariant.stands
+    (c.stores.view_is ∙ c.deref_mut-stores.ensures.value ∙ c.self.view_is) c.requires c.in-Some.ensures.some)
     (sym c.present_state.ensures ∙ c.in-Some-present_state.is) (c.lock-answer.ensures.answer (machine r) c.stores.invariant.stands.stores.clients) client taking
 
 pub invariant_of-stores-2 : goal.invariant_of-stores-2
@@ -32,7 +37,8 @@ invariant_of-stores-2 c =
     let st = stores_of c.stores.inside in
     let stands =
     lock_goes_on r st c.args.id c.in-Some.client c.lock-answer.result c.lock-answer.new.self c.make_step_room.new.steps.items c.push.new.self.items c.stores.invariant.stands
-    (locks_of r c.args.self.now st c.args.t c.args.id c.in-Some.client c.stores.invariant.stands (c.stores.view_is ∙ c.deref_mut-stores.ensures.value ∙ c.self.view_is) c.requires c.in-Some.ensures.some)
+    (locks_of r c.args.self.now st c.args.t c.args.id c.in-Some.client c.stores.invariant.stands
+    (c.stores.view_is ∙ c.deref_mut-stores.ensures.value ∙ c.self.view_is) c.requires c.in-Some.ensures.some)
     (c.lock-answer.ensures.answer (machine r) c.stores.invariant.stands.stores.clients) (sym c.is_step.ensures ∙ c.if-not-is_step.false) c.in_ok-make_step_room.ensures.items (c.push.ensures.items ∙ ap (λ (x : Step). c.make_step_room.new.steps.items ++ x ∷ []) c.lock_step.ensures)
     (c.lock-answer.ensures.stands (machine r) c.stores.invariant.stands.stores.clients) in
     record { stands = stands; spare = other_spared _ _ _ _ _ _ _ _ _ _ c.stores.invariant.stands stands c.in_ok-make_step_room.ensures.items (c.push.ensures.items ∙ ap (λ (x : Step). c.make_step_room.new.steps.items ++ x ∷ []) c.lock_step.ensures) refl c.stores.invariant.spare c.in_ok-make_step_room.ensures.room c.push.ensures.room }
@@ -42,15 +48,22 @@ returns-clause-answer c = λ client taking.
     let r = run_in c.stores.inside in
     let st = stores_of c.stores.inside in
     c.locked_as-2.ensures
-    ∙ lock_answered r c.args.self.now st c.args.t c.args.id c.in-Some.client c.in-Some-present_state.state c.lock-answer.result c.stores.invariant.stands (c.stores.view_is ∙ c.deref_mut-stores.ensures.value ∙ c.self.view_is)
-    (asks r c.args.self.now st c.args.t c.args.id c.in-Some.client c.stores.invariant.stands (c.stores.view_is ∙ c.deref_mut-stores.ensures.value ∙ c.self.view_is) c.requires c.in-Some.ensures.some)
-    (locks_of r c.args.self.now st c.args.t c.args.id c.in-Some.client c.stores.invariant.stands (c.stores.view_is ∙ c.deref_mut-stores.ensures.value ∙ c.self.view_is) c.requires c.in-Some.ensures.some)
+    ∙ lock_answered r c.args.self.now st c.args.t c.args.id c.in-Some.client c.in-Some-present_state.state c.lock-answer.result
+    c.stores.invariant.stands (c.stores.view_is ∙ c.deref_mut-stores.ensures.value ∙ c.self.view_is)
+    (asks r c.args.self.now st c.args.t c.args.id c.in-Some.client c.stores.invariant.stands
+    (c.stores.view_is ∙ c.deref_mut-stores.ensures.value ∙ c.self.view_is) c.requires c.in-Some.ensures.some)
+    (locks_of r c.args.self.now st c.args.t c.args.id c.in-Some.client c.stores.invariant.stands
+    (c.stores.view_is ∙ c.deref_mut-stores.ensures.value ∙ c.self.view_is) c.requires c.in-Some.ensures.some)
     (sym c.present_state.ensures ∙ c.in-Some-present_state.is) (c.lock-answer.ensures.answer (machine r) c.stores.invariant.stands.stores.clients) client taking
 
 pub returns-clause-history : goal.returns-clause-history
 returns-clause-history c = λ client taking.
     let r = run_in c.stores.inside in
     let st = stores_of c.stores.inside in
-    lock_history r c.args.self.now st c.args.t c.args.id c.in-Some.client c.in-Some-present_state.state c.lock-answer.result c.locked_as-2.result c.make_step_room.new.steps.items c.push.new.self.items (c.stores.view_is ∙ c.deref_mut-stores.ensures.value ∙ c.self.view_is)
-    (asks r c.args.self.now st c.args.t c.args.id c.in-Some.client c.stores.invariant.stands (c.stores.view_is ∙ c.deref_mut-stores.ensures.value ∙ c.self.view_is) c.requires c.in-Some.ensures.some) c.locked_as-2.ensures (sym c.is_step.ensures ∙ c.if-not-is_step.false)
+    lock_history r c.args.self.now st c.args.t c.args.id c.in-Some.client c.in-Some-present_state.state c.lock-answer.result
+    c.locked_as-2.result c.make_step_room.new.steps.items c.push.new.self.items
+    (c.stores.view_is ∙ c.deref_mut-stores.ensures.value ∙ c.self.view_is)
+    (asks r c.args.self.now st c.args.t c.args.id c.in-Some.client c.stores.invariant.stands
+    (c.stores.view_is ∙ c.deref_mut-stores.ensures.value ∙ c.self.view_is) c.requires c.in-Some.ensures.some) c.locked_as-2.ensures
+    (sym c.is_step.ensures ∙ c.if-not-is_step.false)
     c.in_ok-make_step_room.ensures.items (c.push.ensures.items ∙ ap (λ (x : Step). c.make_step_room.new.steps.items ++ x ∷ []) c.lock_step.ensures) client taking

@@ -20,7 +20,8 @@ decide_fresh-requires c = λ fresh.
 
 pub returns-clause-answer : goal.returns-clause-answer
 returns-clause-answer c =
-    subst (λ (w : Run). IfOk c.decide_fresh.result (IsDecided (look_up (world w)) c.args.used.now (decided.Done (reply.Refused c.args.why))))
+    subst (λ (w : Run). IfOk c.decide_fresh.result
+        (IsDecided (look_up (world w)) c.args.used.now (decided.Done (reply.Refused c.args.why))))
     (c.deref_mut-stores.ensures.value ∙ c.self.view_is) c.decide_fresh.ensures.answer
 
 pub returns-clause-history : goal.returns-clause-history
@@ -30,5 +31,6 @@ returns-clause-history c =
     ∙ ap (λ n. gains X (if_ok c.decide_fresh.result (steps_of n (step.Refuse n))))
     (taker_as (run_in c.stores.inside) X (stores_of c.stores.inside) c.args.t.0 c.taker-client.result c.stores.invariant.stands
     c.stores.view_is c.taker-client.ensures)
-    ∙ ap (λ (w : Run). gains w (if_ok c.decide_fresh.result (steps_of (taker (machine w) c.args.t.0) (step.Refuse (taker (machine w) c.args.t.0)))))
+    ∙ ap (λ (w : Run). gains w (if_ok c.decide_fresh.result
+    (steps_of (taker (machine w) c.args.t.0) (step.Refuse (taker (machine w) c.args.t.0)))))
     (c.deref_mut-stores.ensures.value ∙ c.self.view_is)

@@ -18,9 +18,11 @@ returns-in-Some-clause-answer c =
 pub hindered-requires : goal.hindered-requires
 hindered-requires c =
     let seen = c.deref_mut-stores.ensures.value ∙ c.self.view_is in
-    ready_as (run_in c.stores.inside) c.deref_mut-stores.result.now (stores_of c.stores.inside) c.args.t.0 c.args.used.now c.args.checked.now
+    ready_as (run_in c.stores.inside) c.deref_mut-stores.result.now
+    (stores_of c.stores.inside) c.args.t.0 c.args.used.now c.args.checked.now
     c.args.resolved.now c.taker-client.result c.stores.invariant.stands c.stores.view_is c.in_default.ensures
-    (subst (λ (w : Run). MaySwap w c.args.t.0 c.args.used.now c.args.checked.now c.args.resolved.now) (sym seen) c.requires) c.taker-client.ensures
+    (subst (λ (w : Run). MaySwap w c.args.t.0 c.args.used.now c.args.checked.now c.args.resolved.now) (sym seen) c.requires)
+    c.taker-client.ensures
 
 pub returns-in-Some-2-clause-answer : goal.returns-in-Some-2-clause-answer
 returns-in-Some-2-clause-answer c =
@@ -42,7 +44,8 @@ pub commit-requires : goal.commit-requires
 commit-requires c =
     let seen = c.deref_mut-stores.ensures.value ∙ c.self.view_is in
     commit_as (run_in c.stores.inside) c.deref_mut-stores.result.now c.hindered.new.stores (stores_of c.stores.inside) c.args.t.0
-    c.args.used.now c.args.checked.now c.args.resolved.now c.taker-client.result _ c.stores.invariant.stands c.stores.view_is c.in_default.ensures
+    c.args.used.now c.args.checked.now c.args.resolved.now c.taker-client.result _ c.stores.invariant.stands
+    c.stores.view_is c.in_default.ensures
     (subst (λ (w : Run). MaySwap w c.args.t.0 c.args.used.now c.args.checked.now c.args.resolved.now) (sym seen) c.requires)
     c.taker-client.ensures (sym c.in_default-2.is) c.in_ok-decided.ensures.history c.in_ok-decided.ensures.may
 
@@ -52,7 +55,8 @@ returns-clause-answer c = (
       (c.stores.view_is ∙ c.deref_mut-stores.ensures.value ∙ c.self.view_is) c.in_default.ensures,
   committed_as (run_in c.stores.inside) c.deref_mut-stores.result.now c.hindered.new.stores (stores_of c.stores.inside) c.args.t.0
       c.taker-client.result c.in_ok-commit.commit _ c.stores.invariant.stands c.stores.view_is
-      c.taker-client.ensures (sym c.in_default-2.is) c.in_ok-decided.ensures.history c.in_ok-decided.ensures.answer c.in_ok-commit.ensures.number
+      c.taker-client.ensures (sym c.in_default-2.is) c.in_ok-decided.ensures.history c.in_ok-decided.ensures.answer
+      c.in_ok-commit.ensures.number
       ∙ ap (λ (w : Run). swap_answer w (taker (machine w) c.args.t.0)) (c.deref_mut-stores.ensures.value ∙ c.self.view_is),
 )
 

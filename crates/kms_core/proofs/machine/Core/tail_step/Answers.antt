@@ -7,12 +7,16 @@ use Rattle.kms_core.proofs.next.TailTurns.{settle_ended, settle_told}
 use Rattle.kms_core.proofs.machine.Core.tail_step.Goals as goal
 
 pub returns-then-stores : goal.returns-then-stores
-returns-then-stores c = settle_ended (run_in c.stores.inside) c.args.self.now (stores_of c.stores.inside) c.stores.invariant.stands (c.stores.view_is ∙ c.deref-stores.ensures ∙ c.self.view_is) c.if-stores.true
+returns-then-stores c = settle_ended (run_in c.stores.inside) c.args.self.now (stores_of c.stores.inside) c.stores.invariant.stands
+    (c.stores.view_is ∙ c.deref-stores.ensures ∙ c.self.view_is) c.if-stores.true
 
 pub returns-in-Some : goal.returns-in-Some
-returns-in-Some c = settle_told (run_in c.stores.inside) c.deref-stores.result.now (stores_of c.stores.inside) (Some c.in-Some.step) _ c.stores.invariant.stands c.stores.view_is c.if-stores.false (sym c.in-Some.is ∙ c.first_of_tails.ensures) refl
+returns-in-Some c = settle_told (run_in c.stores.inside) c.deref-stores.result.now (stores_of c.stores.inside)
+    (Some c.in-Some.step) _ c.stores.invariant.stands c.stores.view_is c.if-stores.false (sym c.in-Some.is ∙ c.first_of_tails.ensures) refl
     ∙ ap (λ (w : Run). tail_step w.script (machine w)) (c.deref-stores.ensures ∙ c.self.view_is)
 
 pub returns-in-None : goal.returns-in-None
-returns-in-None c = settle_told (run_in c.stores.inside) c.deref-stores.result.now (stores_of c.stores.inside) _ c.first_blanking.result c.stores.invariant.stands c.stores.view_is c.if-stores.false (sym c.in-None.is ∙ c.first_of_tails.ensures) c.first_blanking.ensures
+returns-in-None c = settle_told (run_in c.stores.inside) c.deref-stores.result.now
+    (stores_of c.stores.inside) _ c.first_blanking.result c.stores.invariant.stands c.stores.view_is c.if-stores.false
+    (sym c.in-None.is ∙ c.first_of_tails.ensures) c.first_blanking.ensures
     ∙ ap (λ (w : Run). tail_step w.script (machine w)) (c.deref-stores.ensures ∙ c.self.view_is)

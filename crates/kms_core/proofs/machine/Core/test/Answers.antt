@@ -14,7 +14,8 @@ use Rattle.kms_core.proofs.machine.Core.test.Goals as goal
 pub decide_fresh-requires : goal.decide_fresh-requires
 decide_fresh-requires c = λ fresh.
     let seen = c.deref_mut-stores.ensures.value ∙ c.self.view_is in
-    tests_as (run_in c.stores.inside) c.deref_mut-stores.result.now (stores_of c.stores.inside) c.args.t.0 c.args.used.now c.args.checked.now
+    tests_as (run_in c.stores.inside) c.deref_mut-stores.result.now
+    (stores_of c.stores.inside) c.args.t.0 c.args.used.now c.args.checked.now
     c.taker-client.result c.stores.invariant.stands c.stores.view_is fresh
     (subst (λ (w : Run). MayTest w c.args.t.0 c.args.used.now c.args.checked.now) (sym seen) c.requires) c.taker-client.ensures
 
@@ -30,5 +31,6 @@ returns-clause-history c =
     ∙ ap (λ n. gains X (if_ok c.decide_fresh.result (steps_of n (step.Test n))))
     (taker_as (run_in c.stores.inside) X (stores_of c.stores.inside) c.args.t.0 c.taker-client.result c.stores.invariant.stands
     c.stores.view_is c.taker-client.ensures)
-    ∙ ap (λ (w : Run). gains w (if_ok c.decide_fresh.result (steps_of (taker (machine w) c.args.t.0) (step.Test (taker (machine w) c.args.t.0)))))
+    ∙ ap (λ (w : Run). gains w (if_ok c.decide_fresh.result
+    (steps_of (taker (machine w) c.args.t.0) (step.Test (taker (machine w) c.args.t.0)))))
     (c.deref_mut-stores.ensures.value ∙ c.self.view_is)

@@ -10,15 +10,21 @@ use Rattle.kms_core.proofs.stores.Spared.{other_spared, tail_room, tail_spared}
 use Rattle.kms_core.proofs.machine.Core.vblank.Goals as goal
 
 pub bounds : goal.bounds
-bounds c = blanks_low (run_in c.stores.inside) c.args.self.now (stores_of c.stores.inside) c.args.crtc c.stores.invariant.stands (c.stores.view_is ∙ c.deref_mut-stores.ensures.value ∙ c.self.view_is) c.requires
+bounds c = blanks_low (run_in c.stores.inside) c.args.self.now (stores_of c.stores.inside) c.args.crtc c.stores.invariant.stands
+    (c.stores.view_is ∙ c.deref_mut-stores.ensures.value ∙ c.self.view_is) c.requires
 
 pub returns-in_err-make_step_room-clause-no_memory : goal.returns-in_err-make_step_room-clause-no_memory
 returns-in_err-make_step_room-clause-no_memory c = λ goes.
-    let low = blanks_low (run_in c.stores.inside) c.args.self.now (stores_of c.stores.inside) c.args.crtc c.stores.invariant.stands (c.stores.view_is ∙ c.deref_mut-stores.ensures.value ∙ c.self.view_is) c.requires in
-    absurd (false≢true (goes_is (run_in c.stores.inside) c.args.self.now (stores_of c.stores.inside) c.args.crtc None c.stores.invariant.stands (c.stores.view_is ∙ c.deref_mut-stores.ensures.value ∙ c.self.view_is) low c.in_default.is ∙ goes))
+    let low = blanks_low (run_in c.stores.inside) c.args.self.now (stores_of c.stores.inside) c.args.crtc c.stores.invariant.stands
+    (c.stores.view_is ∙ c.deref_mut-stores.ensures.value ∙ c.self.view_is) c.requires in
+    absurd (false≢true (goes_is (run_in c.stores.inside) c.args.self.now
+    (stores_of c.stores.inside) c.args.crtc None c.stores.invariant.stands
+    (c.stores.view_is ∙ c.deref_mut-stores.ensures.value ∙ c.self.view_is) low c.in_default.is ∙ goes))
 
 pub vblank-none-requires-clause-crtc : goal.vblank-none-requires-clause-crtc
-vblank-none-requires-clause-crtc c = blanks_low (run_in c.stores.inside) c.args.self.now (stores_of c.stores.inside) c.args.crtc c.stores.invariant.stands (c.stores.view_is ∙ c.deref_mut-stores.ensures.value ∙ c.self.view_is) c.requires
+vblank-none-requires-clause-crtc c = blanks_low (run_in c.stores.inside) c.args.self.now
+    (stores_of c.stores.inside) c.args.crtc c.stores.invariant.stands
+    (c.stores.view_is ∙ c.deref_mut-stores.ensures.value ∙ c.self.view_is) c.requires
 
 pub vblank-none-requires-clause-count : goal.vblank-none-requires-clause-count
 vblank-none-requires-clause-count c =
@@ -29,21 +35,27 @@ invariant_of-stores-in_default c =
     let r = run_in c.stores.inside in
     let st = stores_of c.stores.inside in
     let stands =
-    blanks_without r c.args.self.now st c.args.crtc c.stores.inside.latches c.vblank-none.new.self c.make_step_room.new.steps.items c.push.new.self.items c.stores.invariant.stands (c.stores.view_is ∙ c.deref_mut-stores.ensures.value ∙ c.self.view_is) c.requires
+    blanks_without r c.args.self.now st c.args.crtc c.stores.inside.latches c.vblank-none.new.self c.make_step_room.new.steps.items
+    c.push.new.self.items c.stores.invariant.stands (c.stores.view_is ∙ c.deref_mut-stores.ensures.value ∙ c.self.view_is) c.requires
     c.in_ok-make_step_room.ensures.items c.push.ensures.items refl c.vblank-none.ensures.stands c.in_default.is in
     record { stands = stands; spare = other_spared r st _ (Vblank Crtc c.args.crtc) c.make_step_room.new.steps.items c.push.new.self.items _ _ _ _ c.stores.invariant.stands stands c.in_ok-make_step_room.ensures.items c.push.ensures.items refl c.stores.invariant.spare c.in_ok-make_step_room.ensures.room c.push.ensures.room }
 
 pub returns-in_default-clause-answer : goal.returns-in_default-clause-answer
 returns-in_default-clause-answer c =
-    goes_is (run_in c.stores.inside) c.args.self.now (stores_of c.stores.inside) c.args.crtc None c.stores.invariant.stands (c.stores.view_is ∙ c.deref_mut-stores.ensures.value ∙ c.self.view_is)
-    (blanks_low (run_in c.stores.inside) c.args.self.now (stores_of c.stores.inside) c.args.crtc c.stores.invariant.stands (c.stores.view_is ∙ c.deref_mut-stores.ensures.value ∙ c.self.view_is) c.requires) c.in_default.is
+    goes_is (run_in c.stores.inside) c.args.self.now (stores_of c.stores.inside) c.args.crtc None c.stores.invariant.stands
+    (c.stores.view_is ∙ c.deref_mut-stores.ensures.value ∙ c.self.view_is)
+    (blanks_low (run_in c.stores.inside) c.args.self.now (stores_of c.stores.inside) c.args.crtc c.stores.invariant.stands
+    (c.stores.view_is ∙ c.deref_mut-stores.ensures.value ∙ c.self.view_is) c.requires) c.in_default.is
 
 pub push-requires-2 : goal.push-requires-2
 push-requires-2 c =
     let r = run_in c.stores.inside in
     let st = stores_of c.stores.inside in
-    let B = blanks_for r c.args.self.now st c.in-Some.commit c.args.crtc c.stores.invariant.stands (c.stores.view_is ∙ c.deref_mut-stores.ensures.value ∙ c.self.view_is) c.requires c.in-Some.is in
-    (tail_room r st (Vblank Crtc c.args.crtc) c.in-Some.commit _ _ c.stores.invariant.stands (blanks_legal r c.args.self.now c.args.crtc (c.stores.view_is ∙ c.deref_mut-stores.ensures.value ∙ c.self.view_is) c.requires) B.within B.go c.stores.invariant.spare).step
+    let B = blanks_for r c.args.self.now st c.in-Some.commit c.args.crtc c.stores.invariant.stands
+    (c.stores.view_is ∙ c.deref_mut-stores.ensures.value ∙ c.self.view_is) c.requires c.in-Some.is in
+    (tail_room r st (Vblank Crtc c.args.crtc) c.in-Some.commit _ _ c.stores.invariant.stands
+    (blanks_legal r c.args.self.now c.args.crtc (c.stores.view_is ∙ c.deref_mut-stores.ensures.value ∙ c.self.view_is) c.requires) B.within
+    B.go c.stores.invariant.spare).step
 
 pub vblank-requires-clause-count : goal.vblank-requires-clause-count
 vblank-requires-clause-count c =
@@ -53,36 +65,49 @@ pub invariant_of-stores-in_default-vblank : goal.invariant_of-stores-in_default-
 invariant_of-stores-in_default-vblank c =
     absurd (
     has_picture (run_in c.stores.inside) (stores_of c.stores.inside) c.in-Some.commit c.args.crtc c.stores.invariant.stands
-    (blanks_low (run_in c.stores.inside) c.args.self.now (stores_of c.stores.inside) c.args.crtc c.stores.invariant.stands (c.stores.view_is ∙ c.deref_mut-stores.ensures.value ∙ c.self.view_is) c.requires) c.in-Some.is c.in_default-vblank.ensures.picture
+    (blanks_low (run_in c.stores.inside) c.args.self.now (stores_of c.stores.inside) c.args.crtc c.stores.invariant.stands
+    (c.stores.view_is ∙ c.deref_mut-stores.ensures.value ∙ c.self.view_is) c.requires) c.in-Some.is c.in_default-vblank.ensures.picture
     )
 
 pub unreachable-requires : goal.unreachable-requires
 unreachable-requires c =
     has_picture (run_in c.stores.inside) (stores_of c.stores.inside) c.in-Some.commit c.args.crtc c.stores.invariant.stands
-    (blanks_low (run_in c.stores.inside) c.args.self.now (stores_of c.stores.inside) c.args.crtc c.stores.invariant.stands (c.stores.view_is ∙ c.deref_mut-stores.ensures.value ∙ c.self.view_is) c.requires) c.in-Some.is c.in_default-vblank.ensures.picture
+    (blanks_low (run_in c.stores.inside) c.args.self.now (stores_of c.stores.inside) c.args.crtc c.stores.invariant.stands
+    (c.stores.view_is ∙ c.deref_mut-stores.ensures.value ∙ c.self.view_is) c.requires) c.in-Some.is c.in_default-vblank.ensures.picture
 
 pub show-requires-clause-crtc : goal.show-requires-clause-crtc
-show-requires-clause-crtc c = rw c.latch_of-shown.ensures.shown (blanks_low (run_in c.stores.inside) c.args.self.now (stores_of c.stores.inside) c.args.crtc c.stores.invariant.stands (c.stores.view_is ∙ c.deref_mut-stores.ensures.value ∙ c.self.view_is) c.requires)
+show-requires-clause-crtc c = rw c.latch_of-shown.ensures.shown
+    (blanks_low (run_in c.stores.inside) c.args.self.now (stores_of c.stores.inside) c.args.crtc c.stores.invariant.stands
+    (c.stores.view_is ∙ c.deref_mut-stores.ensures.value ∙ c.self.view_is) c.requires)
 
 pub show-requires-clause-there : goal.show-requires-clause-there
 show-requires-clause-there c =
     rw c.latch_of-shown.ensures.shown
-    (blank_latches (run_in c.stores.inside) c.args.self.now (stores_of c.stores.inside) c.in-Some.commit c.args.crtc c.latch_of-shown.result.count c.in-Some-vblank.picture c.stores.invariant.stands (c.stores.view_is ∙ c.deref_mut-stores.ensures.value ∙ c.self.view_is) c.requires c.in-Some.is)
+    (blank_latches (run_in c.stores.inside) c.args.self.now
+    (stores_of c.stores.inside) c.in-Some.commit c.args.crtc c.latch_of-shown.result.count c.in-Some-vblank.picture
+    c.stores.invariant.stands (c.stores.view_is ∙ c.deref_mut-stores.ensures.value ∙ c.self.view_is) c.requires c.in-Some.is)
 
 pub push-requires-3 : goal.push-requires-3
 push-requires-3 c =
     let r = run_in c.stores.inside in
     let st = stores_of c.stores.inside in
-    let B = blanks_for r c.args.self.now st c.in-Some.commit c.args.crtc c.stores.invariant.stands (c.stores.view_is ∙ c.deref_mut-stores.ensures.value ∙ c.self.view_is) c.requires c.in-Some.is in
-    (tail_room r st (Vblank Crtc c.args.crtc) c.in-Some.commit _ _ c.stores.invariant.stands (blanks_legal r c.args.self.now c.args.crtc (c.stores.view_is ∙ c.deref_mut-stores.ensures.value ∙ c.self.view_is) c.requires) B.within B.go c.stores.invariant.spare).latch
+    let B = blanks_for r c.args.self.now st c.in-Some.commit c.args.crtc c.stores.invariant.stands
+    (c.stores.view_is ∙ c.deref_mut-stores.ensures.value ∙ c.self.view_is) c.requires c.in-Some.is in
+    (tail_room r st (Vblank Crtc c.args.crtc) c.in-Some.commit _ _ c.stores.invariant.stands
+    (blanks_legal r c.args.self.now c.args.crtc (c.stores.view_is ∙ c.deref_mut-stores.ensures.value ∙ c.self.view_is) c.requires) B.within
+    B.go c.stores.invariant.spare).latch
 
 pub returns-clause-answer : goal.returns-clause-answer
 returns-clause-answer c =
-    goes_is (run_in c.stores.inside) c.args.self.now (stores_of c.stores.inside) c.args.crtc (Some c.in-Some.commit) c.stores.invariant.stands (c.stores.view_is ∙ c.deref_mut-stores.ensures.value ∙ c.self.view_is)
-    (blanks_low (run_in c.stores.inside) c.args.self.now (stores_of c.stores.inside) c.args.crtc c.stores.invariant.stands (c.stores.view_is ∙ c.deref_mut-stores.ensures.value ∙ c.self.view_is) c.requires) c.in-Some.is
+    goes_is (run_in c.stores.inside) c.args.self.now (stores_of c.stores.inside) c.args.crtc
+    (Some c.in-Some.commit) c.stores.invariant.stands (c.stores.view_is ∙ c.deref_mut-stores.ensures.value ∙ c.self.view_is)
+    (blanks_low (run_in c.stores.inside) c.args.self.now (stores_of c.stores.inside) c.args.crtc c.stores.invariant.stands
+    (c.stores.view_is ∙ c.deref_mut-stores.ensures.value ∙ c.self.view_is) c.requires) c.in-Some.is
 
 pub live_layers-before-requires : goal.live_layers-before-requires
-live_layers-before-requires c = blanks_low (run_in c.stores.inside) c.args.self.now (stores_of c.stores.inside) c.args.crtc c.stores.invariant.stands (c.stores.view_is ∙ c.deref_mut-stores.ensures.value ∙ c.self.view_is) c.requires
+live_layers-before-requires c = blanks_low (run_in c.stores.inside) c.args.self.now
+    (stores_of c.stores.inside) c.args.crtc c.stores.invariant.stands
+    (c.stores.view_is ∙ c.deref_mut-stores.ensures.value ∙ c.self.view_is) c.requires
 
 pub shown_ids-ids_before-requires : goal.shown_ids-ids_before-requires
 shown_ids-ids_before-requires c = live_few (run_in c.stores.inside) (stores_of c.stores.inside) (object_id Crtc c.args.crtc) c.as_slice.result.now c.stores.invariant.stands (λ t d stand. c.as_slice.ensures ∙ c.live_layers-before.ensures t d stand)
@@ -92,7 +117,8 @@ show-requires-clause-places c =
     let r = run_in c.stores.inside in
     let st = stores_of c.stores.inside in
     live_places r st (object_id Crtc c.args.crtc) c.as_slice-2.result.now c.stores.invariant.stands
-    (blanks_crtc r c.args.self.now st c.in-Some.commit c.args.crtc c.stores.invariant.stands (c.stores.view_is ∙ c.deref_mut-stores.ensures.value ∙ c.self.view_is) c.requires c.in-Some.is)
+    (blanks_crtc r c.args.self.now st c.in-Some.commit c.args.crtc c.stores.invariant.stands
+    (c.stores.view_is ∙ c.deref_mut-stores.ensures.value ∙ c.self.view_is) c.requires c.in-Some.is)
     (live_all r st (object_id Crtc c.args.crtc) c.as_slice.result.now c.shown_ids-ids_before.result.items c.as_slice-2.result.now c.stores.invariant.stands c.shown_ids-ids_before.ensures (λ t d stand. c.as_slice.ensures ∙ c.live_layers-before.ensures t d stand) c.as_slice-2.ensures.value)
 
 pub show-requires-clause-held : goal.show-requires-clause-held
@@ -100,7 +126,8 @@ show-requires-clause-held c =
     let r = run_in c.stores.inside in
     let st = stores_of c.stores.inside in
     live_held r st (object_id Crtc c.args.crtc) c.as_slice-2.result.now c.stores.invariant.stands
-    (blanks_crtc r c.args.self.now st c.in-Some.commit c.args.crtc c.stores.invariant.stands (c.stores.view_is ∙ c.deref_mut-stores.ensures.value ∙ c.self.view_is) c.requires c.in-Some.is)
+    (blanks_crtc r c.args.self.now st c.in-Some.commit c.args.crtc c.stores.invariant.stands
+    (c.stores.view_is ∙ c.deref_mut-stores.ensures.value ∙ c.self.view_is) c.requires c.in-Some.is)
     (live_all r st (object_id Crtc c.args.crtc) c.as_slice.result.now c.shown_ids-ids_before.result.items c.as_slice-2.result.now c.stores.invariant.stands c.shown_ids-ids_before.ensures (λ t d stand. c.as_slice.ensures ∙ c.live_layers-before.ensures t d stand) c.as_slice-2.ensures.value)
 
 pub show-requires-clause-rising : goal.show-requires-clause-rising
@@ -121,10 +148,13 @@ invariant_of-stores-2 c =
     let st = stores_of c.stores.inside in
     let step = Vblank Crtc c.args.crtc in
     let shown = c.latch_of-shown.ensures.shown in
-    let B = blanks_for r c.args.self.now st c.in-Some.commit c.args.crtc c.stores.invariant.stands (c.stores.view_is ∙ c.deref_mut-stores.ensures.value ∙ c.self.view_is) c.requires c.in-Some.is in
+    let B = blanks_for r c.args.self.now st c.in-Some.commit c.args.crtc c.stores.invariant.stands
+    (c.stores.view_is ∙ c.deref_mut-stores.ensures.value ∙ c.self.view_is) c.requires c.in-Some.is in
     let stands =
-    blanks_with r c.args.self.now st c.in-Some.commit c.args.crtc c.latch_of-shown.result.count c.in-Some-vblank.picture c.vblank.new.self c.show.new.tracker c.show.new.fences
-    c.show.new.queues.items c.push-3.new.self c.push-2.new.self.items c.stores.invariant.stands (c.stores.view_is ∙ c.deref_mut-stores.ensures.value ∙ c.self.view_is) c.requires c.push-2.ensures.items
+    blanks_with r c.args.self.now st c.in-Some.commit c.args.crtc c.latch_of-shown.result.count c.in-Some-vblank.picture c.vblank.new.self
+    c.show.new.tracker c.show.new.fences
+    c.show.new.queues.items c.push-3.new.self c.push-2.new.self.items c.stores.invariant.stands
+    (c.stores.view_is ∙ c.deref_mut-stores.ensures.value ∙ c.self.view_is) c.requires c.push-2.ensures.items
     (record {
       go = c.in-Some.is;
       blanks = c.in-Some-vblank.ensures.stands;

@@ -22,5 +22,6 @@ invariant_of-stores c =
     let k = c.args.commit in
     let allowed = subst (λ (w : Run). MayClaim w k) (sym c.stores.view_is) c.requires in
     let own = own_step r st (Claim k) k c.stores.invariant.stands refl refl allowed in
-    let stands = claims r st k c.claim.new.self r.steps c.push.new.self.items c.stores.invariant.stands allowed refl c.push.ensures.items c.claim.ensures in
+    let stands = claims r st k c.claim.new.self r.steps c.push.new.self.items c.stores.invariant.stands allowed refl
+    c.push.ensures.items c.claim.ensures in
     record { stands = stands; spare = own_spared r st _ (Claim k) k c.push.new.self.items _ _ _ c.stores.invariant.stands stands c.push.ensures.items own c.stores.invariant.spare c.push.ensures.room }

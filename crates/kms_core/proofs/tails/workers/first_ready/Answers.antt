@@ -4,16 +4,20 @@ use Rattle.kms_core.proofs.stores.Seeking.{goes_up, less_left, none_found, one_f
 use Rattle.kms_core.proofs.tails.workers.first_ready.Goals as goal
 
 pub returns-then-ready : goal.returns-then-ready
-returns-then-ready c = one_found c.args.tracker.now (ready_of c.args.tracker.now c.args.fences.now) c.seeking.from c.in-Some.commit c.seeking.invariant c.in-Some.ensures.machine (sym c.ready.ensures ∙ c.if-ready.true)
+returns-then-ready c = one_found c.args.tracker.now (ready_of c.args.tracker.now c.args.fences.now) c.seeking.from c.in-Some.commit
+    c.seeking.invariant c.in-Some.ensures.machine (sym c.ready.ensures ∙ c.if-ready.true)
 
 pub overflow_add-from : goal.overflow_add-from
-overflow_add-from c = let l = (goes_up c.args.tracker.now c.seeking.from c.in-Some.commit c.requires c.in-Some.ensures.machine).fits in omega (arith, l)
+overflow_add-from c = let l = (goes_up c.args.tracker.now c.seeking.from c.in-Some.commit c.requires c.in-Some.ensures.machine).fits in
+    omega (arith, l)
 
 pub seeking-smaller : goal.seeking-smaller
 seeking-smaller c = less_left c.args.tracker.now c.seeking.from c.in-Some.commit c.requires c.in-Some.ensures.machine
 
 pub seeking-preserved : goal.seeking-preserved
-seeking-preserved c = one_passed c.args.tracker.now (ready_of c.args.tracker.now c.args.fences.now) c.seeking.from c.in-Some.commit c.seeking.invariant c.in-Some.ensures.machine (sym c.ready.ensures ∙ c.if-ready.false)
+seeking-preserved c = one_passed c.args.tracker.now (ready_of c.args.tracker.now c.args.fences.now) c.seeking.from c.in-Some.commit
+    c.seeking.invariant c.in-Some.ensures.machine (sym c.ready.ensures ∙ c.if-ready.false)
 
 pub returns : goal.returns
-returns c = none_found c.args.tracker.now (ready_of c.args.tracker.now c.args.fences.now) c.seeking.from c.seeking.invariant c.in_default.ensures.machine
+returns c = none_found c.args.tracker.now (ready_of c.args.tracker.now c.args.fences.now) c.seeking.from c.seeking.invariant
+    c.in_default.ensures.machine

@@ -5,4 +5,5 @@ use Rattle.kms_track.proofs.Queries.{written_is}
 use Rattle.kms_track.proofs.tail.Tail.is_written.Goals as goal
 
 pub returns-clause-machine : goal.returns-clause-machine
-returns-clause-machine c = let e : c.is_none.result ≡ is_none (next_write_of c.args.self.now) = search rules in λ t d latches k device is. e ∙ written_is t d latches k c.args.self.now device is
+returns-clause-machine c = let e : c.is_none.result ≡ is_none (next_write_of c.args.self.now) = search rules in λ t d latches k device is. e
+    ∙ written_is t d latches k c.args.self.now device is

@@ -6,4 +6,5 @@ use Rattle.kms_track.proofs.Queries.{flush_is}
 use Rattle.kms_track.proofs.tail.Tail.next_flush.Goals as goal
 
 pub returns-clause-machine : goal.returns-clause-machine
-returns-clause-machine c = λ t d latches k device is. ap (option_map (object_id Crtc)) c.first_left.ensures.first ∙ flush_is t d latches k c.args.self.now device is
+returns-clause-machine c = λ t d latches k device is. ap (option_map (object_id Crtc)) c.first_left.ensures.first
+    ∙ flush_is t d latches k c.args.self.now device is

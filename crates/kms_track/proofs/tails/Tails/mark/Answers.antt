@@ -11,7 +11,8 @@ invariant_of-self c =
     c.in-Some.ensures.in_range c.in-Some.ensures.at in
     rw (marked_at c.self.inside.slots.items c.in-Some.i c.args.commit c.index_mut.result.now c.args.mark c.with-tail.result
     at.rising at.within at.same c.index_mut.ensures.value c.with-tail.ensures)
-    (marked_rises c.self.inside.slots.items c.args.commit c.args.mark (value_with_id c.self.inside.slots.items c.args.commit) c.self.invariant)
+    (marked_rises c.self.inside.slots.items c.args.commit c.args.mark
+    (value_with_id c.self.inside.slots.items c.args.commit) c.self.invariant)
 
 pub returns-in-Some : goal.returns-in-Some
 returns-in-Some c =
