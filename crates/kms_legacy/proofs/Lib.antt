@@ -2,6 +2,7 @@ pub mod AloneLines
 pub mod CallsRead
 pub mod ClientLine
 pub mod CommandWords
+pub mod CrtcCalls
 pub mod DeviceFront
 pub mod EarlyLines
 pub mod GoingOff
@@ -12,11 +13,17 @@ pub mod LinesLed
 pub mod LinesOn
 pub mod NewText
 pub mod Numbers
+pub mod OneCall
+pub mod OrderedLayers
 pub mod ParsedWell
+pub mod PlaneCalls
 pub mod RequestsSaid
 pub mod RowTails
 pub mod SameLabels
 pub mod SamePresent
 pub mod Saying
+pub mod ScreenAlong
+pub mod ScreenCalls
+pub mod ScreenShown
 pub mod SpeltWhereRead
 pub mod WholeScripts

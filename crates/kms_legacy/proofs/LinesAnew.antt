@@ -52,7 +52,7 @@ few_renamed f r few = not_many (length (map (renamed_assign f) r.assigns)) (omeg
 abbrev pub read_as : Command → Names → Option (Command × Names)
 read_as c names = Some (c, names)
 
-command_of_both : (c d : Command) (a b : Names) → read_as c a ≡ read_as d b → c ≡ d
+pub command_of_both : (c d : Command) (a b : Names) → read_as c a ≡ read_as d b → c ≡ d
 command_of_both c d a b e = ap (λ (x : Command × Names). x.0) (some_same {A = Command × Names} (c, a) (d, b) e)
 
 pub said_anew : (profile : ℕ) (old : List (List ℕ)) (r : Request) → RequestsAreReadBack → IsSaid profile old r → length r.assigns ≤ 256
@@ -81,7 +81,14 @@ atomic_word : (all : List (List ℕ)) (r : Request) (text : List ℕ) → IsLine
     → bytes_eq (until 32 text) (codes "atomic") ≡ true
 atomic_word all r text is = ap (λ (xs : List ℕ). bytes_eq (until 32 xs) (codes "atomic")) (request_text all r text is)
 
--- what is read of a line that does not begin as a request is none
+-- a line that does not begin as a request is none
+pub no_atomic : (names after : Names) (text : List ℕ) (r : Request) → bytes_eq (until 32 text) (codes "atomic") ≡ false
+    → command_read names text ≡ Some (command.Atomic r, after) → ⊥
+no_atomic names after text r other read =
+    let is : IsLineOf (words_in after) (command.Atomic r) text =
+    sym (command_spelt (words_in after) names after text (command.Atomic r) read (own_names after)) in
+    true≢false (sym (atomic_word (words_in after) r text is) ∙ other)
+
 pub not_over : (names after : Names) (text : List ℕ) (c : Command) → bytes_eq (until 32 text) (codes "atomic") ≡ false
     → command_read names text ≡ Some (c, after) → is_over c ≡ false
 not_over names after text (command.Buffer label width height format pattern) other read = refl
@@ -92,10 +99,7 @@ not_over names after text (command.Destroy label) other read = refl
 not_over names after text (command.CloseFb label) other read = refl
 not_over names after text (command.Fence label) other read = refl
 not_over names after text (command.Signal label) other read = refl
-not_over names after text (command.Atomic r) other read =
-    let is : IsLineOf (words_in after) (command.Atomic r) text =
-    sym (command_spelt (words_in after) names after text (command.Atomic r) read (own_names after)) in
-    absurd (true≢false (sym (atomic_word (words_in after) r text is) ∙ other))
+not_over names after text (command.Atomic r) other read = absurd (no_atomic names after text r other read)
 not_over names after text command.Wait other read = refl
 
 pub plain_anew : FormsNeedNoNames → (profile : ℕ) (all : List (List ℕ)) (names after : Names) (text : List ℕ) (c : Command)

@@ -99,7 +99,7 @@ look_same old all names w below b label =
           (omega (arith, count, behind, past.1))))
     ]
 
-mode_same : (f g : ℕ → Look) (c : LegacyCall) → ((label : ℕ) → f label ≡ g label) → mode_of_call f c ≡ mode_of_call g c
+pub mode_same : (f g : ℕ → Look) (c : LegacyCall) → ((label : ℕ) → f label ≡ g label) → mode_of_call f c ≡ mode_of_call g c
 mode_same f g (call.SetCrtc crtc fb x y mode conn) same = ap mode_of_look (same mode)
 mode_same f g (call.CrtcOff crtc) same = refl
 mode_same f g (call.SetPlane plane crtc fb dst src) same = refl
@@ -109,7 +109,7 @@ mode_same f g (call.Cursor crtc fb x y) same = refl
 mode_same f g (call.CursorMove crtc x y) same = refl
 mode_same f g (call.CursorOff crtc) same = refl
 
-fb_same : (f g : ℕ → Look) (c : LegacyCall) → ((label : ℕ) → f label ≡ g label) → fb_of_call f c ≡ fb_of_call g c
+pub fb_same : (f g : ℕ → Look) (c : LegacyCall) → ((label : ℕ) → f label ≡ g label) → fb_of_call f c ≡ fb_of_call g c
 fb_same f g (call.SetCrtc crtc fb x y mode conn) same = ap fb_of_look (same fb)
 fb_same f g (call.CrtcOff crtc) same = refl
 fb_same f g (call.SetPlane plane crtc fb dst src) same = ap fb_of_look (same fb)
@@ -193,7 +193,7 @@ same_words old all t c a b said few begins =
     (sym said.is_line ∙ sym spelt)
 
 -- names before a command are a front of those after it
-before_said : (old all : List (List ℕ)) (t : Topology) (c : Command) (a b : Going) → IsSaidAnew old t c a b → Begins (said_names b) all
+pub before_said : (old all : List (List ℕ)) (t : Topology) (c : Command) (a b : Going) → IsSaidAnew old t c a b → Begins (said_names b) all
     → Begins (said_names a) all
 before_said old all t c a b said begins = names_begin all (said_names a) (said_names b) said.text said.command said.read begins
 

@@ -126,7 +126,7 @@ same_back a b s = record { made = sym s.made; twice = sym s.twice; labels = λ w
 same_on : (a b c : Names) → SameMade a b → SameMade b c → SameMade a c
 same_on a b c one two = record { made = one.made ∙ two.made; twice = one.twice ∙ two.twice; labels = λ w. one.labels w ∙ two.labels w }
 
-after_of_both : (c d : Command) (a b : Names) → read_as c a ≡ read_as d b → a ≡ b
+pub after_of_both : (c d : Command) (a b : Names) → read_as c a ≡ read_as d b → a ≡ b
 after_of_both c d a b e = ap (λ (x : Command × Names). x.1) (some_same {A = Command × Names} (c, a) (d, b) e)
 
 -- a request that makes no label
@@ -180,25 +180,27 @@ ok_of (Ok y) x e = ap Ok (some_same y x e)
 ok_of (Err n) x e = absurd cc
 
 -- what a call leaves is a request that makes no label
-record IsQuietRequest (c : Command) : Type 0 where
-  request : Request
-  is : c ≡ command.Atomic request
-  quiet : list_all (λ x. makes_nothing x.value) request.assigns ≡ true
+pub record IsQuietRequest (stated : Result Request ℕ) (c : Command) : Type 0 where
+  pub request : Request
+  pub asked : stated ≡ Ok request
+  pub is : c ≡ command.Atomic request
+  pub quiet : list_all (λ x. makes_nothing x.value) request.assigns ≡ true
 
-call_quiet : (old new : List (List ℕ)) (t : Topology) (w : World) (l : LegacyCall) (c : Command) → meant old new t w (Call l) ≡ Some c
-    → IsQuietRequest c
+pub call_quiet : (old new : List (List ℕ)) (t : Topology) (w : World) (l : LegacyCall) (c : Command) → meant old new t w (Call l) ≡ Some c
+    → IsQuietRequest (translated old new t w l) c
 unfolding meant translated
 call_quiet old new t w l c e =
     let m = map_some command.Atomic (result_ok (translated old new t w l)) c e in
     record {
       request = m.value;
+      asked = ok_of (translated old new t w l) m.value m.given;
       is = sym m.makes;
       quiet =
           request_quiet t (present_in w) (mode_of_call (look_anew old new w) l) (fb_of_call (look_anew old new w) l) l m.value
           (ok_of (translated old new t w l) m.value m.given);
     }
 
-plain_meant : (old new : List (List ℕ)) (t : Topology) (w : World) (k c : Command) → meant old new t w (Plain k) ≡ Some c → k ≡ c
+pub plain_meant : (old new : List (List ℕ)) (t : Topology) (w : World) (k c : Command) → meant old new t w (Plain k) ≡ Some c → k ≡ c
 unfolding meant
 plain_meant old new t w k c e = some_same k c e
 

@@ -167,10 +167,10 @@ pub record IsAsked (profile : ℕ) (names : List (List ℕ)) (r : Request) : Typ
   pub said : IsSaid profile names r
   pub few : length r.assigns ≤ 256
 
-abbrev given : Request → Result Request ℕ
+abbrev pub given : Request → Result Request ℕ
 given r = Ok r
 
-request_same : (q r : Request) → given q ≡ given r → q ≡ r
+pub request_same : (q r : Request) → given q ≡ given r → q ≡ r
 request_same q r e = cc
 
 asked_said : (n profile flags user : ℕ) (names : List (List ℕ)) (assigns : List Assign) (r : Request) → n ≤ 256 → is_word32 flags ≡ true

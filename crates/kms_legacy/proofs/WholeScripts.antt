@@ -191,7 +191,7 @@ formed back s first last spelt at passed differ =
     ]
 
 -- nothing is made before the first command
-starts_said : (t : Topology) (g : Going) → IsAtStart t g → SaysAll g
+pub starts_said : (t : Topology) (g : Going) → IsAtStart t g → SaysAll g
 starts_said t g at = subst (λ (d : Device). AreBelow (length (said_names g).all) d.world.things) (sym at.device) tt
 
 lone : (has : Bool) (lines : List Command) → clients_of has lines ≡ clients_of has (lone_commands (clients_of has lines))

@@ -4,6 +4,7 @@ ghost use Rattle.std.specs.List.{IsDistinct};
 ghost use Rattle.std.specs.Str.{bytes_eq};
 ghost use Rattle.kms_model.specs.declared.scripts.Command.TheVariants as command;
 ghost use Rattle.kms_model.specs.Device.Sound.{IsDevice};
+ghost use Rattle.kms_model.specs.Legacy.Screen.{KeepsScreen};
 ghost use Rattle.kms_model.specs.Legacy.Translated.{IsTranslated, translated};
 ghost use Rattle.kms_model.specs.Script.CommandLines.{command_read, words_in};
 ghost use Rattle.kms_model.specs.Script.WholeInput.{clients_of};
@@ -184,10 +185,12 @@ fn finished(alloc: Global, script: &LegacyScript, going: Going) -> Result<Script
 /// each call the request that `translate` gives of it, at the states that the device of one thread has there, and with what
 /// the call's labels name there. A call that is refused by `NO_PLANE`, `NOT_SHOWN` or `FORMAT_CHANGES` leaves no line; one
 /// whose request the device will refuse leaves that request. The names are those that occur, in order of first occurrence.
-/// The script may have more bytes than `parse` reads. The only error is want of memory.
+/// After each command the device of one thread, which executes the lines that are left so far, shows on each CRTC what the
+/// user of older calls sees there. The script may have more bytes than `parse` reads. The only error is want of memory.
 pub fn translate_script(alloc: Global, script: &LegacyScript) -> Result<Script, NoMemory>
     requires { IsWellFormedLegacy script.now }
-    ensures { IfOk result (IsTranslated script.now) }
+    ensures translated { IfOk result (IsTranslated script.now) }
+    ensures screen { IfOk result (KeepsScreen script.now) }
 {
     forms_need_no_names();
     requests_are_read_back();

@@ -44,6 +44,21 @@ client
 wait
 ";
 
+/// What `legacy` writes: the requests of `setcrtc`, `pageflip`, `cursor` and `setcrtc` with `off`.
+const TRANSLATED: &[u8] = b"kms 1
+crtcs 2
+plane primary 0,1 XR24
+plane cursor 0,1 XR24
+conn 0,1
+conn 0,1
+client
+addfb f b
+atomic 0x400 0 crtc0.ACTIVE=1 crtc0.MODE_ID=@m conn1.CRTC_ID=0 conn0.CRTC_ID=crtc0 plane0.FB_ID=@f plane0.CRTC_ID=crtc0 plane0.CRTC_X=0 plane0.CRTC_Y=0 plane0.CRTC_W=0 plane0.CRTC_H=0 plane0.SRC_X=131072 plane0.SRC_Y=4294901760 plane0.SRC_W=0 plane0.SRC_H=0
+atomic 0x201 18446744073709551615 plane0.FB_ID=@f
+atomic 0x0 0 plane1.CRTC_X=-2147483648 plane1.CRTC_Y=2147483647
+atomic 0x400 0 crtc0.ACTIVE=0 crtc0.MODE_ID=0 conn0.CRTC_ID=0 plane0.FB_ID=0 plane0.CRTC_ID=0
+";
+
 fn printed(alloc: Global, text: &[u8]) -> Result<Seq<u8>, AllocError> {
     let script = script(alloc, text)?;
     print(alloc, &script).map_err(|_| AllocError)
@@ -52,7 +67,7 @@ fn printed(alloc: Global, text: &[u8]) -> Result<Seq<u8>, AllocError> {
 #[test]
 fn a_text_that_was_read_is_printed(rt: HostRuntime) -> Result<(), Fail> {
     let alloc = rt.alloc();
-    for text in [EXAMPLE.as_bytes(), NO_CLIENT, EACH_FORM] {
+    for text in [EXAMPLE.as_bytes(), NO_CLIENT, EACH_FORM, TRANSLATED] {
         assert!(rt; printed(alloc, text)?.as_slice() == text);
     }
     Ok(())
