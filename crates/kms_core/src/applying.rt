@@ -7,7 +7,7 @@ ghost use Rattle.kms_core.specs.Run.{gains, if_ok, machine};
 
 use crate::deciding::{commit, decide};
 use crate::machine::Core;
-use crate::next::{checked, refusal_reply, request_taken, resolved};
+use crate::next::{check_request, refusal_reply, request_taken, resolve_request};
 use crate::stores::Stores;
 use crate::tails::claim_commit;
 use kms_model::{Doing, Kind, NoMemory, ObjId, Reply, Step};
@@ -155,8 +155,8 @@ fn do_swap(stores: &mut Stores, alloc: Global, client: u32) -> Result<(), NoMemo
     let Some(request) = request_taken(stores, client) else {
         unreachable!();
     };
-    let checked = checked(stores, request);
-    let resolved = resolved(stores, alloc, request)?;
+    let checked = check_request(stores, request);
+    let resolved = resolve_request(stores, alloc, request)?;
     let _commit = commit(stores, alloc, client, &checked, &resolved)?;
     Ok(())
 }

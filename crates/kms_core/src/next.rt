@@ -14,5 +14,5 @@ mod stalling;
 mod tail_steps;
 
 pub use client_steps::{doing, idle_command, is_at_end};
-pub use judging::{checked, refusal_reply, request_taken, resolved};
+pub use judging::{check_request, refusal_reply, request_taken, resolve_request};
 pub use tail_steps::has_go;

@@ -1,7 +1,7 @@
 //! Two machines that are told apart by what a label names, and a request whose look-ups grew old.
 use crate::following::{follow_all, holds};
 use kms_core::{Core, Decided};
-use kms_course::{looks_same, started, tells_same};
+use kms_course::{looks_same, start_machine, tells_same};
 use kms_model::{Command, Look, Lookups, NoMemory, Step};
 use kms_samples::{CONN, CRTC, PLANE, script};
 use kms_single_calls::{call_step, context_with, decide};
@@ -75,7 +75,7 @@ fn decide_late(core: &mut Core, alloc: Global) -> Result<(), Fail> {
 /// A label that names something else than it did is told, and nothing is decided.
 #[test]
 fn look_ups_that_grew_old_are_told(rt: HostRuntime) -> Result<(), Fail> {
-    let mut core = started(rt.alloc(), CLOSING)?;
+    let mut core = start_machine(rt.alloc(), CLOSING)?;
     decide_late(&mut core, rt.alloc())
 }
 
@@ -90,12 +90,12 @@ fn tell_apart(one: &mut Core, other: &Core, alloc: Global) -> Result<(), Fail> {
 
 /// The same for one of them beside a new machine.
 fn tell_from_new(one: &mut Core, alloc: Global) -> Result<(), Fail> {
-    let other = started(alloc, CLOSING)?;
+    let other = start_machine(alloc, CLOSING)?;
     tell_apart(one, &other, alloc)
 }
 
 #[test]
 fn machines_are_told_apart(rt: HostRuntime) -> Result<(), Fail> {
-    let mut one = started(rt.alloc(), CLOSING)?;
+    let mut one = start_machine(rt.alloc(), CLOSING)?;
     tell_from_new(&mut one, rt.alloc())
 }

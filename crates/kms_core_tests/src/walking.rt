@@ -4,7 +4,7 @@ use crate::following::holds;
 use crate::kinds::{BUT_STALL, STALL, kinds_in};
 use crate::walks::{Walk, catch_up, end, go_on, walk_of};
 use kms_core::Core;
-use kms_course::started;
+use kms_course::start_machine;
 use std::alloc::Global;
 use std::test::Fail;
 
@@ -76,13 +76,13 @@ fn walk_beside(
     seed: u64,
     way: Way,
 ) -> Result<(), Fail> {
-    let mut again = started(alloc, text)?;
+    let mut again = start_machine(alloc, text)?;
     walk_both(core, &mut again, alloc, seed, way)
 }
 
 /// The walk of a seed on machines of a script. It gives whether the history was ended as dead.
 fn walk(alloc: Global, text: &str, seed: u64, way: Way) -> Result<bool, Fail> {
-    let mut core = started(alloc, text)?;
+    let mut core = start_machine(alloc, text)?;
     walk_beside(&mut core, alloc, text, seed, way)?;
     Ok(core.is_stalled())
 }

@@ -1,6 +1,6 @@
 //! Lines of a course on what single calls answer that take locks and decide requests. A call whose answer is a step has done it.
 use crate::calls::call_decision;
-use crate::places::numbered;
+use crate::places::split_number;
 use kms_core::{Core, Decided, Locked};
 use kms_model::{NoMemory, ObjId};
 use kms_single_calls::{call_lock, call_relock};
@@ -26,10 +26,10 @@ fn is_locked(alloc: Global, locked: Option<Locked>, answer: &str) -> Result<bool
 
 /// A client asks for the object with an id.
 pub(crate) fn asks(core: &mut Core, alloc: Global, rest: &str) -> Result<bool, NoMemory> {
-    let Some((client, rest)) = numbered(rest) else {
+    let Some((client, rest)) = split_number(rest) else {
         return Ok(false);
     };
-    let Some((id, answer)) = numbered(rest) else {
+    let Some((id, answer)) = split_number(rest) else {
         return Ok(false);
     };
     let locked = call_lock(core, client, ObjId(id))?;
@@ -38,7 +38,7 @@ pub(crate) fn asks(core: &mut Core, alloc: Global, rest: &str) -> Result<bool, N
 
 /// A client asks again for the object that it backed off for.
 pub(crate) fn asks_again(core: &mut Core, alloc: Global, rest: &str) -> Result<bool, NoMemory> {
-    let Some((client, answer)) = numbered(rest) else {
+    let Some((client, answer)) = split_number(rest) else {
         return Ok(false);
     };
     let locked = call_relock(core, client)?;
@@ -60,7 +60,7 @@ fn decision_text(alloc: Global, decided: Option<Decided>) -> Result<String, NoMe
 
 /// The request of a client is decided.
 pub(crate) fn decides(core: &mut Core, alloc: Global, rest: &str) -> Result<bool, NoMemory> {
-    let Some((client, answer)) = numbered(rest) else {
+    let Some((client, answer)) = split_number(rest) else {
         return Ok(false);
     };
     let decided = call_decision(core, alloc, client)?;

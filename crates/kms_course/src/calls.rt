@@ -21,7 +21,7 @@ struct Holding {
 
 impl Holding {
     /// Tells that a step was done.
-    fn did(&mut self, step: &Step) -> Result<(), NoMemory> {
+    fn note_step(&mut self, step: &Step) -> Result<(), NoMemory> {
         match *step {
             Step::Lock {
                 client,
@@ -60,7 +60,7 @@ fn objects_held(alloc: Global, steps: &[Step], client: u32) -> Result<Vec<ObjId>
         last: None,
     };
     for step in steps {
-        holding.did(step)?;
+        holding.note_step(step)?;
     }
     Ok(holding.objects)
 }

@@ -85,11 +85,11 @@ fn go_the_same(one: &Core, other: &Core) -> bool {
 fn hold_the_same(one: &Core, other: &Core) -> bool {
     one.replies()
         .iter()
-        .all(|answered| made_the_same(one, other, answered))
+        .all(|answered| gives_the_same(one, other, answered))
 }
 
 /// Whether the id that an answer has given, if any, is that of a framebuffer with the same words on two machines.
-fn made_the_same(one: &Core, other: &Core, answered: &Answered) -> bool {
+fn gives_the_same(one: &Core, other: &Core, answered: &Answered) -> bool {
     match answered.reply {
         Reply::Made { id } => are_the_same(one.image(id), other.image(id)),
         _ => true,

@@ -36,7 +36,7 @@ use crate::answers::{asks, asks_again, decides};
 use crate::ends::{ends, is_of_one_thread};
 use crate::lists::{Told, counts, is_told};
 use crate::moves::{do_step, goes, next_of};
-use crate::places::{numbered, stands};
+use crate::places::{split_number, stands};
 use crate::refusing::is_refused;
 use kms_core::Core;
 use kms_model::{NoMemory, Step};
@@ -81,7 +81,7 @@ fn do_next(
 
 /// Does what is next for a client.
 fn next_line(core: &mut Core, alloc: Global, rest: &str) -> Result<bool, NoMemory> {
-    match numbered(rest) {
+    match split_number(rest) {
         Some((client, line)) => {
             let next = next_of(core, client);
             do_next(core, alloc, next, line)
@@ -97,7 +97,7 @@ fn goes_at(core: &Core, crtc: &str) -> Option<bool> {
 
 /// Whether a framebuffer has these words.
 fn has_words(core: &Core, alloc: Global, rest: &str) -> Result<bool, NoMemory> {
-    let Some((id, words)) = numbered(rest) else {
+    let Some((id, words)) = split_number(rest) else {
         return Ok(false);
     };
     match core.image(id) {
@@ -111,7 +111,7 @@ fn has_words(core: &Core, alloc: Global, rest: &str) -> Result<bool, NoMemory> {
 
 /// Whether a machine has a framebuffer, in this size, or has none with its id.
 fn has_framebuffer(core: &Core, alloc: Global, rest: &str) -> Result<bool, NoMemory> {
-    let Some((id, size)) = numbered(rest) else {
+    let Some((id, size)) = split_number(rest) else {
         return Ok(false);
     };
     match core.framebuffer(id) {

@@ -1,5 +1,5 @@
 //! Lines of a course on how a history ends.
-use crate::replays::anew;
+use crate::replays::start_anew;
 use kms_core::Core;
 use kms_model::NoMemory;
 use kms_one_thread::{End, end_of, finish};
@@ -43,7 +43,7 @@ fn is_awake(core: &Core) -> bool {
 
 /// Whether a history is what one thread makes of the script, to its end.
 pub(crate) fn is_of_one_thread(core: &Core, alloc: Global) -> Result<bool, NoMemory> {
-    let mut one = anew(alloc, core)?;
+    let mut one = start_anew(alloc, core)?;
     ends_alike(&mut one, core, alloc)
 }
 

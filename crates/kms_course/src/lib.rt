@@ -21,6 +21,6 @@ pub use comparing::{looks_same, tells_same};
 pub use courses::{follow, step_of};
 pub use moves::{do_step, goes, next_of, place_of};
 pub use playing::{Played, play};
-pub use replays::{again, anew};
-pub use starting::{NotStarted, started};
+pub use replays::{do_again, start_anew};
+pub use starting::{NotStarted, start_machine};
 pub use steps::{Object, crtc, flush, lock, plane, vblank, write};

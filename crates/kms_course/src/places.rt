@@ -5,7 +5,7 @@ use kms_model::{Doing, NoMemory, Place};
 use std::alloc::Global;
 
 /// A number, and what stands behind it.
-pub(crate) fn numbered(rest: &str) -> Option<(u32, &str)> {
+pub(crate) fn split_number(rest: &str) -> Option<(u32, &str)> {
     let (number, rest) = rest.split_once(' ')?;
     Some((number.parse().ok()?, rest))
 }
@@ -28,7 +28,7 @@ fn place_text(alloc: Global, at: Place) -> Result<String, NoMemory> {
 
 /// Whether a client stands at a place.
 pub(crate) fn stands(core: &Core, alloc: Global, rest: &str) -> Result<bool, NoMemory> {
-    let Some((client, place)) = numbered(rest) else {
+    let Some((client, place)) = split_number(rest) else {
         return Ok(false);
     };
     match place_of(core, client) {

@@ -2,8 +2,8 @@
 use crate::calls::is_called;
 use crate::comparing::tells_same;
 use crate::courses::follow;
-use crate::replays::{again, anew};
-use crate::starting::{NotStarted, started};
+use crate::replays::{do_again, start_anew};
+use crate::starting::{NotStarted, start_machine};
 use kms_core::Core;
 use kms_model::NoMemory;
 use kms_one_thread::ReplayError;
@@ -26,7 +26,7 @@ pub enum Played<'a> {
 
 /// Follows a course from the start of a script. Its history is then made again by single calls, and by a schedule.
 pub fn play<'a>(alloc: Global, script: &str, course: &'a str) -> Result<Played<'a>, NoMemory> {
-    match started(alloc, script) {
+    match start_machine(alloc, script) {
         Ok(mut core) => play_on(&mut core, alloc, course),
         Err(NotStarted::NoScript) => Ok(Played::NoScript),
         Err(NotStarted::NoMemory) => Err(NoMemory),
@@ -50,13 +50,13 @@ fn play_on<'a>(core: &mut Core, alloc: Global, course: &'a str) -> Result<Played
 
 /// Whether single calls on a new machine make the same history, and both then tell the same.
 fn call_again(core: &Core, alloc: Global) -> Result<bool, NoMemory> {
-    let mut called = anew(alloc, core)?;
+    let mut called = start_anew(alloc, core)?;
     is_called(&mut called, alloc, core)
 }
 
 /// Whether the history is replayed as a schedule on a new machine, and both then tell the same.
 fn replay_again(core: &Core, alloc: Global) -> Result<bool, NoMemory> {
-    match again(alloc, core) {
+    match do_again(alloc, core) {
         Ok(replayed) => Ok(tells_same(core, &replayed)),
         Err(ReplayError::Illegal { .. }) => Ok(false),
         Err(ReplayError::NoMemory) => Err(NoMemory),

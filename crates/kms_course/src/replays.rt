@@ -7,7 +7,7 @@ use kms_one_thread::{ReplayError, replay};
 use std::alloc::Global;
 
 /// A new machine of the script of a machine. The error is want of memory.
-pub fn anew(alloc: Global, core: &Core) -> Result<Core, NoMemory>
+pub fn start_anew(alloc: Global, core: &Core) -> Result<Core, NoMemory>
     ensures { IfOk result (λ new. new ≡ record core.now { steps = [] }) }
 {
     core.is_a_history();
@@ -16,10 +16,10 @@ pub fn anew(alloc: Global, core: &Core) -> Result<Core, NoMemory>
 
 /// A new machine of the same script, on which the steps of a machine were done again, one after the other. The error is want of
 /// memory, or the place of a step that was not legal there.
-pub fn again(alloc: Global, core: &Core) -> Result<Core, ReplayError>
+pub fn do_again(alloc: Global, core: &Core) -> Result<Core, ReplayError>
     ensures { IfOk result (λ new. new ≡ core.now) }
 {
-    let mut new = anew(alloc, core)?;
+    let mut new = start_anew(alloc, core)?;
     replay(alloc, &mut new, core.history())?;
     Ok(new)
 }

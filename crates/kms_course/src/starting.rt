@@ -31,7 +31,7 @@ impl From<ParseError> for NotStarted {
 }
 
 /// The machine of the script that a text spells, before the first step.
-pub fn started(alloc: Global, text: &str) -> Result<Core, NotStarted>
+pub fn start_machine(alloc: Global, text: &str) -> Result<Core, NotStarted>
     ensures { IfOk result (λ core. core.steps ≡ []) }
 {
     let parsed = parse(alloc, text.as_bytes(), Part::Script)?;

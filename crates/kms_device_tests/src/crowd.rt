@@ -5,7 +5,7 @@ ghost use Rattle.kms_pass_calls.specs.Pairs.{AreOf, AreSame};
 
 use crate::scripts::{CLIENTS, COMMITS, script};
 use kms_core::Core;
-use kms_course::{again, tells_same};
+use kms_course::{do_again, tells_same};
 use kms_device::Device;
 use kms_model::{Part, Reply, Script, Seq};
 use kms_pass_calls::{Two, commit_and_finish, prepare};
@@ -156,7 +156,7 @@ fn assert_all(rt: &(impl Abort + AllocGlobal), core: &Core) {
     for client in 1..CLIENTS + 1 {
         assert!(rt; commits_of(core, client) == COMMITS as usize);
     }
-    let Ok(new) = again(rt.alloc(), core) else {
+    let Ok(new) = do_again(rt.alloc(), core) else {
         panic!(rt; "each step is legal")
     };
     assert!(rt; tells_same(core, &new));

@@ -3,7 +3,7 @@ ghost use Rattle.std.specs.Prelude.{◌≡◌};
 ghost use Rattle.kms_histlock.specs.Passes.{IsSamePass, new_pass};
 
 use kms_core::Core;
-use kms_course::{again, anew, tells_same};
+use kms_course::{do_again, start_anew, tells_same};
 use kms_device::{Device, Pass};
 use kms_model::{NoMemory, Part, Seq};
 use kms_pass_calls::{Call, Told, make_call};
@@ -55,7 +55,7 @@ pub(crate) fn closed(
 /// Asserts that a history can be done again on a new machine, which tells the same then, and not before.
 pub(crate) fn assert_again(rt: &(impl Abort + AllocGlobal), core: &Core) {
     assert_differs(rt, core);
-    let Ok(new) = again(rt.alloc(), core) else {
+    let Ok(new) = do_again(rt.alloc(), core) else {
         panic!(rt; "each step is legal")
     };
     assert!(rt; tells_same(core, &new));
@@ -63,7 +63,7 @@ pub(crate) fn assert_again(rt: &(impl Abort + AllocGlobal), core: &Core) {
 
 /// Asserts that a new machine of the same script, on which nothing was done, does not tell the same.
 fn assert_differs(rt: &(impl Abort + AllocGlobal), core: &Core) {
-    let Ok(new) = anew(rt.alloc(), core) else {
+    let Ok(new) = start_anew(rt.alloc(), core) else {
         panic!(rt; "there is memory")
     };
     assert!(rt; !tells_same(core, &new));

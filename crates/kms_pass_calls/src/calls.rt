@@ -54,7 +54,7 @@ pub fn return_from<W: Wait>(rt: &W, device: &Device, pass: &mut Pass) -> Result<
     requires own { pass.old.lock ≡ device.now.lock }
     ensures same { IsSamePass pass.old pass.new }
 {
-    let Some(client) = returning(rt, device, pass) else {
+    let Some(client) = at_return(rt, device, pass) else {
         return Ok(false);
     };
     device.return_from(rt, pass, client)
@@ -79,7 +79,7 @@ fn at_making<W: Wait>(rt: &W, device: &Device, pass: &mut Pass) -> Option<u32>
 }
 
 /// The client of a pass, where it waits for its commit.
-fn returning<W: Wait>(rt: &W, device: &Device, pass: &mut Pass) -> Option<u32>
+fn at_return<W: Wait>(rt: &W, device: &Device, pass: &mut Pass) -> Option<u32>
     requires own { pass.old.lock ≡ device.now.lock }
     ensures same { IsSamePass pass.old pass.new }
     ensures whose { IfSome result (λ client. pass.new.rank ≡ client) }

@@ -167,11 +167,11 @@ impl<'a, G: Gate> Site<'a, G> {
             Command::Wait => self.read(rt, pass, number),
             Command::Signal { .. } => {
                 let _reply = self.device.signal(rt, pass, self.client)?;
-                Ok(self.answered(rt, number))
+                Ok(self.come_to_gate(rt, number))
             }
             _ => {
                 let _reply = self.device.make(rt, alloc, pass, self.client)?;
-                Ok(self.answered(rt, number))
+                Ok(self.come_to_gate(rt, number))
             }
         }
     }
@@ -189,15 +189,15 @@ impl<'a, G: Gate> Site<'a, G> {
         ensures no_step { OnErr result (Went [] pass.old pass.new) }
     {
         match self.device.read_event(rt, pass, self.client)? {
-            Some(_reply) => Ok(self.answered(rt, number)),
+            Some(_reply) => Ok(self.come_to_gate(rt, number)),
             None => Ok(Turn::NotYet {
                 length: pass.seen_len(),
             }),
         }
     }
 
-    /// A turn in which the command with a number was answered; the client then comes to the gate.
-    fn answered<W: Wait>(&self, rt: &W, number: u32) -> Turn
+    /// Ends a turn in which the command with a number was answered: the client comes to the gate.
+    fn come_to_gate<W: Wait>(&self, rt: &W, number: u32) -> Turn
         ensures { result ≡ Did }
     {
         self.gate.at(rt, Point::Answered, self.client, number);

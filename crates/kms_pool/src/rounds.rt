@@ -35,10 +35,10 @@ pub fn drive<P: Player + Send, R: Threads + Wait + Sync>(
     ensures players { IfOk result (λ r. IsPermutation (map P.name players) (map P.name r)) }
     ensures settled { IfOk result (AllRest P.answer) }
 {
-    let mut participants = joined(alloc, players)?;
+    let mut participants = participants_of(alloc, players)?;
     for _ in rt.forever() {
         if all_rest(participants.as_slice()) {
-            return parted(alloc, participants);
+            return players_of(alloc, participants);
         }
         participants = round(rt, alloc, participants, threads)?;
     }
@@ -46,7 +46,10 @@ pub fn drive<P: Player + Send, R: Threads + Wait + Sync>(
 }
 
 // The participants of players that have had no turn here.
-fn joined<P: Player>(alloc: Global, players: Seq<P>) -> Result<Vec<Participant<P>>, NoMemory>
+fn participants_of<P: Player>(
+    alloc: Global,
+    players: Seq<P>,
+) -> Result<Vec<Participant<P>>, NoMemory>
     ensures { IfOk result (λ v. map (λ x. x.player) v.items ≡ players) }
 {
     let players = players.into_vec();
@@ -58,7 +61,10 @@ fn joined<P: Player>(alloc: Global, players: Seq<P>) -> Result<Vec<Participant<P
 }
 
 // The players of participants.
-fn parted<P: Player>(alloc: Global, participants: Vec<Participant<P>>) -> Result<Seq<P>, NoMemory>
+fn players_of<P: Player>(
+    alloc: Global,
+    participants: Vec<Participant<P>>,
+) -> Result<Seq<P>, NoMemory>
     ensures { IfOk result (λ r. r ≡ map (λ x. x.player) participants.items) }
 {
     let mut players = Vec::with_capacity(alloc, participants.len())?;
@@ -72,14 +78,14 @@ fn parted<P: Player>(alloc: Global, participants: Vec<Participant<P>>) -> Result
 fn all_rest<P: Player>(participants: &[Participant<P>]) -> bool
     ensures { IsTrue result → AllRest (λ x. P.answer x.player) participants.now }
 {
-    let length = awaited(participants);
+    let length = awaited_length(participants);
     participants
         .iter()
         .all(|participant| participant.rests(length))
 }
 
 // The length at which the first player answered `NotYet`; 0 where there is none.
-fn awaited<P: Player>(participants: &[Participant<P>]) -> u64 {
+fn awaited_length<P: Player>(participants: &[Participant<P>]) -> u64 {
     for participant in participants {
         if let Some(length) = participant.awaits() {
             return length;
@@ -102,11 +108,11 @@ fn round<P: Player + Send, R: Threads + Wait + Sync>(
     let count = participants.len();
     let (queue, mut pass) = Queue::<P>::ruled(alloc, count.max(1))?;
     bring_all(rt, &queue, &mut pass, participants);
-    let mut workers = hired(alloc, &queue, &mut pass, threads)?;
+    let mut workers = hire(alloc, &queue, &mut pass, threads)?;
     let quiet = Quiet::new(count as u64);
     run(rt, alloc, &queue, &quiet, workers.as_mut_slice());
     dismiss(&queue, &mut pass, workers)?;
-    taken(rt, alloc, &queue, pass)
+    take_all(rt, alloc, &queue, pass)
 }
 
 // Puts all players into the queue.
@@ -126,8 +132,8 @@ fn bring_all<P: Player, W: Wait>(
     }
 }
 
-// The workers, each with a pass of its own, which is split off this one.
-fn hired<P: Player>(
+// Hires workers, each with a pass of its own, which is split off this one.
+fn hire<P: Player>(
     alloc: Global,
     queue: &Queue<P>,
     pass: &mut QueuePass<P>,
@@ -203,7 +209,7 @@ fn dismiss<P: Player>(
 }
 
 // Takes all players out of the queue.
-fn taken<P: Player, W: Wait>(
+fn take_all<P: Player, W: Wait>(
     rt: &W,
     alloc: Global,
     queue: &Queue<P>,

@@ -12,7 +12,7 @@ ghost use Rattle.kms_report.specs.Telling.{latch_front, latches_text, lit_line};
 ghost use Rattle.kms_kept_frames.specs.Screens.{AreKeptFramesOf};
 
 use crate::pixmaps::push_pixmap;
-use crate::showing::showing;
+use crate::showing::show_latch;
 use kms_compose::Frame;
 use kms_core::Core;
 use kms_kept_frames::{Hands, Screen};
@@ -97,7 +97,7 @@ fn push_latch<H: Hands>(
         push_off(text)?;
         return Ok(screen);
     };
-    let screen = showing(hands, alloc, core, screen, latch, after)?;
+    let screen = show_latch(hands, alloc, core, screen, latch, after)?;
     let kept = screen.kept(&latch.picture);
     push_frame(
         alloc,

@@ -44,7 +44,7 @@ fn kept_images<'a>(alloc: Global, core: &'a Core, screen: &Screen) -> Result<Ima
 
 /// The picture of a latch, with its frame, in the place of what is kept of the latch's CRTC; and so, in the same turn, the next
 /// other picture that the CRTC latches, so that the digests of both are made together.
-pub fn showing<H: Hands>(
+pub fn show_latch<H: Hands>(
     hands: &H,
     alloc: Global,
     core: &Core,

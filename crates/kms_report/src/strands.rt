@@ -8,7 +8,7 @@ ghost use Rattle.kms_kept_frames.specs.Screens.{AreKeptFramesOf};
 ghost use Rattle.kms_kept_frames.specs.Strands.{is_strand};
 ghost use Rattle.kms_kept_frames.specs.declared.strands.Strand.TheVariants as Strand;
 
-use crate::showing::showing;
+use crate::showing::show_latch;
 use kms_core::Core;
 use kms_kept_frames::{OneThread, Screen, Strand, is_lit};
 use kms_model::{Latch, NoMemory};
@@ -38,7 +38,7 @@ fn push_digest(
     if !is_own || !is_lit(latch, crtc) {
         return Ok(screen);
     }
-    let screen = showing(&OneThread, alloc, core, screen, latch, &[])?;
+    let screen = show_latch(&OneThread, alloc, core, screen, latch, &[])?;
     digests.push(screen.kept(&latch.picture).digest)?;
     Ok(screen)
 }
@@ -70,8 +70,8 @@ fn digests_of_strand(
     Ok(digests)
 }
 
-/// The two frames of a screen, each on a screen of its own.
-fn parted(alloc: Global, screen: Screen) -> (Screen, Screen)
+/// Splits the two frames of a screen, each on a screen of its own.
+fn split_screen(alloc: Global, screen: Screen) -> (Screen, Screen)
     ensures one { (things : List Thing) → AreKeptFramesOf things screen
         → AreKeptFramesOf things result.0 }
     ensures other { (things : List Thing) → AreKeptFramesOf things screen
@@ -104,7 +104,7 @@ pub fn digests_by_strands<R: Threads>(
     ensures second { IfOk result (λ both. both.1.items
         ≡ strand_digests (things_of core.now) crtc Strand.Second latches.now strands.now) }
 {
-    let (mut one, mut other) = parted(alloc, screen);
+    let (mut one, mut other) = split_screen(alloc, screen);
     let mut first = || -> Result<Digests, NoMemory>
         requires { AreKeptFramesOf (things_of core.now) one
             × All (λ l. EachCanBeShown (things_of core.now) l.picture) latches.now

@@ -10,7 +10,7 @@ ghost use Rattle.kms_kept_frames.specs.Screens.{AreKeptFramesOf};
 ghost use Rattle.kms_kept_frames.specs.declared.strands.Strand.TheVariants as Strand;
 
 use crate::latches::{front_of, push_after, push_digits, push_latches, push_off};
-use crate::showing::showing;
+use crate::showing::show_latch;
 use crate::strands::digests_by_strands;
 use kms_core::Core;
 use kms_kept_frames::{OneThread, Screen, SeveralThreads, Strand, is_lit, strands_of};
@@ -146,7 +146,7 @@ fn push_by_strands<R: Threads + Sync>(
     };
     let dark = Screen::dark(alloc);
     let (latch, after) = (&latches[place], &latches[place + 1..]);
-    let screen = showing(hands, alloc, core, dark, latch, after)?;
+    let screen = show_latch(hands, alloc, core, dark, latch, after)?;
     push_shown(hands, alloc, text, core, screen, crtc, latches)
 }
 

@@ -116,7 +116,7 @@ pub(crate) fn full_report<R: Threads + Sync>(
 }
 
 /// Does what is asked for on a machine before its first step, and reports it.
-fn told<R: Threads + Sync>(
+fn execute_and_report<R: Threads + Sync>(
     rt: &R,
     alloc: Global,
     core: &mut Core,
@@ -145,5 +145,5 @@ pub fn answer<R: Threads + Sync>(
     let parsed = parse(alloc, &input, asked.action.part())?;
     drop(input);
     let mut core = Core::new(alloc, parsed.script)?;
-    told(rt, alloc, &mut core, asked, parsed.steps.as_slice())
+    execute_and_report(rt, alloc, &mut core, asked, parsed.steps.as_slice())
 }

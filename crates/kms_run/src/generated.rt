@@ -37,7 +37,7 @@ fn tells_event(answer: &Answered, client: u32) -> bool
 }
 
 /// How many of these replies tell a client an event.
-fn events_told(answers: &[Answered], client: u32) -> usize
+fn count_events_told(answers: &[Answered], client: u32) -> usize
     ensures exact { result ≡ count_by (tells client) answers.now }
     ensures within { result ≤ length answers.now }
 {
@@ -48,7 +48,7 @@ fn events_told(answers: &[Answered], client: u32) -> usize
 }
 
 /// How many events the clients have read.
-fn events_read(core: &Core) -> usize
+fn count_events_read(core: &Core) -> usize
     ensures { result ≡ said.events_read core.now.script (machine core.now) }
 {
     core.is_a_history();
@@ -56,7 +56,7 @@ fn events_read(core: &Core) -> usize
     kms_laws::events_read_are_replies();
     let mut count = 0;
     for client in 0..core.script().clients.len() as u32 {
-        count += events_told(core.replies(), client + 1);
+        count += count_events_told(core.replies(), client + 1);
     }
     count
 }
@@ -68,7 +68,7 @@ fn count_all(core: &Core) -> Counts
     Counts {
         journal: core.journal().len(),
         latches: core.latched().len(),
-        events: events_read(core),
+        events: count_events_read(core),
         freed: core.freed().len(),
     }
 }
@@ -156,7 +156,7 @@ fn run_summary<R: Threads + Sync>(
 /// What `gen` writes: the text of a generated script; or, where the script is run, how many entries the journal has, how many
 /// latches, events read and framebuffers freed there are, the digest of the report, and that the history is drained, as that
 /// of each generated script is. The only error is want of memory.
-pub fn generated_text<R: Threads + Sync>(
+pub fn generate_text<R: Threads + Sync>(
     rt: &R,
     alloc: Global,
     asks: &Generation,

@@ -89,7 +89,7 @@ fn passes_of<'a, G: Gate>(
 }
 
 /// Closes a device with all its passes, in any order, and continues its history to its end.
-fn continued(alloc: Global, device: Device, passes: Seq<Pass>) -> Result<Core, NoMemory>
+fn close_and_finish(alloc: Global, device: Device, passes: Seq<Pass>) -> Result<Core, NoMemory>
     requires all { AreAllPasses device passes }
     requires some { 1 ≤ device.seats }
     ensures { IfOk result (IsFinishedOf device passes) }
@@ -100,8 +100,8 @@ fn continued(alloc: Global, device: Device, passes: Seq<Pass>) -> Result<Core, N
     Ok(core)
 }
 
-/// The machine of a script once players in threads have come to rest on its device, and its history is continued to its end.
-fn ran<R: Threads + Wait + Sync, G: Gate + Sync>(
+/// Lets players in threads execute a script on its device until they rest, and continues the history to its end.
+fn run_to_end<R: Threads + Wait + Sync, G: Gate + Sync>(
     rt: &R,
     alloc: Global,
     script: Script,
@@ -117,11 +117,11 @@ fn ran<R: Threads + Wait + Sync, G: Gate + Sync>(
     let players = players(alloc, &device, gate, passes)?;
     let players = drive(rt, alloc, players, threads)?;
     let passes = passes_of(alloc, players)?;
-    continued(alloc, device, passes)
+    close_and_finish(alloc, device, passes)
 }
 
-/// The report of a run of a script, and of a schedule behind it, which says nothing here, by 1 to 16 threads.
-fn run_told<R: Threads + Wait + Sync, G: Gate + Sync>(
+/// Runs a script by 1 to 16 threads, and reports it. The schedule behind it says nothing here.
+fn run_and_report<R: Threads + Wait + Sync, G: Gate + Sync>(
     rt: &R,
     alloc: Global,
     script: Script,
@@ -136,7 +136,7 @@ fn run_told<R: Threads + Wait + Sync, G: Gate + Sync>(
         IsReportOf (record { action = Action.Run threads; options = options }) script
         schedule.now report.ended report.text) }
 {
-    let core = ran(rt, alloc, script, threads, gate)?;
+    let core = run_to_end(rt, alloc, script, threads, gate)?;
     let asked = Execution {
         action: Action::Run { threads },
         options,
@@ -162,5 +162,5 @@ pub(crate) fn run_answer<R: Threads + Wait + Sync, G: Gate + Sync>(
     drop(input);
     let script = parsed.script;
     let steps = parsed.steps.as_slice();
-    Ok(run_told(rt, alloc, script, steps, threads, options, gate)?)
+    Ok(run_and_report(rt, alloc, script, steps, threads, options, gate)?)
 }

@@ -10,7 +10,7 @@ ghost use Rattle.kms_run.specs.Translation.{TellsTranslation};
 ghost use Rattle.kms_run.specs.Words.{AreFewThreads, HasFewCommits, is_run, needs_threads};
 
 use crate::answers::{FullReport, NoAnswer, answer};
-use crate::generated::generated_text;
+use crate::generated::generate_text;
 use crate::running::run_answer;
 use crate::status::Status;
 use crate::stream::{ReadError, read_all, write_all};
@@ -68,7 +68,7 @@ fn write_answer<K: Sink>(sink: &mut K, answer: Result<FullReport, NoAnswer>) -> 
 }
 
 /// What `one` and `replay` do, with all that is promised of the bytes in one clause by the status.
-fn executed<R: Threads + Sync, S: Source, K: Sink>(
+fn execute_input<R: Threads + Sync, S: Source, K: Sink>(
     rt: &R,
     alloc: Global,
     asks: &Execution,
@@ -95,7 +95,7 @@ fn executed<R: Threads + Sync, S: Source, K: Sink>(
 }
 
 /// What `run` does, by so many threads, with the same promise.
-fn run_executed<R: Threads + Wait + Sync, S: Source, K: Sink, G: Gate + Sync>(
+fn run_input<R: Threads + Wait + Sync, S: Source, K: Sink, G: Gate + Sync>(
     rt: &R,
     alloc: Global,
     threads: u32,
@@ -128,7 +128,7 @@ fn run_executed<R: Threads + Wait + Sync, S: Source, K: Sink, G: Gate + Sync>(
 }
 
 /// What `gen` does, which has no source to read.
-fn generated<R: Threads + Sync, K: Sink>(
+fn write_generation<R: Threads + Sync, K: Sink>(
     rt: &R,
     alloc: Global,
     asks: &Generation,
@@ -141,7 +141,7 @@ fn generated<R: Threads + Sync, K: Sink>(
     ensures no_write_fault { result ≢ Status.WriteFault
         → K.faults sink.new ≡ K.faults sink.old }
 {
-    let Ok(text) = generated_text(rt, alloc, asks) else {
+    let Ok(text) = generate_text(rt, alloc, asks) else {
         return Status::NoMemory;
     };
     match write_all(sink, text.as_slice()) {
@@ -213,8 +213,8 @@ pub fn kms_plain<R: Threads + Sync, S: Source, K: Sink>(
 {
     match read_words(words) {
         None => Status::Usage,
-        Some(Task::Execute(asks)) => executed(rt, alloc, &asks, source, sink),
-        Some(Task::Generate(asks)) => generated(rt, alloc, &asks, sink),
+        Some(Task::Execute(asks)) => execute_input(rt, alloc, &asks, source, sink),
+        Some(Task::Generate(asks)) => write_generation(rt, alloc, &asks, sink),
         Some(Task::Translate) => translated(alloc, source, sink),
     }
 }
@@ -244,7 +244,7 @@ pub fn kms_main<R: Threads + Wait + Sync, S: Source, K: Sink, G: Gate + Sync>(
                     options,
                 },
             ),
-        ) => run_executed(rt, alloc, threads, options, source, sink, gate),
+        ) => run_input(rt, alloc, threads, options, source, sink, gate),
         _ => kms_plain(rt, alloc, words, source, sink),
     }
 }

@@ -78,10 +78,10 @@ impl Core {
         };
         let answer = stores.clients.lock(client, id);
         if !is_step(answer) {
-            return Ok(locked_as(state, answer));
+            return Ok(answer_with_state(state, answer));
         }
         stores.steps.push(lock_step(client, id));
-        Ok(locked_as(state, answer))
+        Ok(answer_with_state(state, answer))
     }
 
     /// Drops all locks of the context of a ticket, which must back off. Want of memory leaves all as it was. (Kernel:
@@ -153,7 +153,7 @@ fn is_step(answer: Lock) -> bool
 }
 
 /// The answer with the object's state.
-fn locked_as(state: ObjState, answer: Lock) -> Locked
+fn answer_with_state(state: ObjState, answer: Lock) -> Locked
     ensures { result ≡ locked_as state answer }
 {
     match answer {

@@ -22,12 +22,12 @@ fn swap_all<S: Copy>(states: &mut [Option<Both<S>>], checked: &[Option<Both<S>>]
     ensures { AreSwappedIn S states.old checked.now states.new }
 {
     for index in 0..states.len() {
-        states[index] = swapped_in(states[index], checked[index]);
+        states[index] = swap_one(states[index], checked[index]);
     }
 }
 
 /// The same of one object.
-fn swapped_in<S: Copy>(present: Option<Both<S>>, checked: Option<Both<S>>) -> Option<Both<S>>
+fn swap_one<S: Copy>(present: Option<Both<S>>, checked: Option<Both<S>>) -> Option<Both<S>>
     ensures { result ≡ swapped_in present checked }
 {
     let present = present?;

@@ -43,7 +43,7 @@ impl Core {
             return Ok(stale.again());
         }
         let client = taker(&stores.clients, t);
-        if let Some(decided) = hindered(stores, client, checked, resolved.flags)? {
+        if let Some(decided) = refuse_or_put_off(stores, client, checked, resolved.flags)? {
             return Ok(decided);
         }
         let commit = commit(stores, alloc, client, checked, resolved)?;
@@ -56,7 +56,7 @@ impl Core {
 /// Refuses an accepted request of a client, for want of space for its events or for being busy, or tells the first CRTC
 /// at which its commit has to wait for another. None exactly where it may be committed. Nothing changes but where it is
 /// refused.
-fn hindered(
+fn refuse_or_put_off(
     stores: &mut Stores,
     client: u32,
     checked: &Checked,

@@ -61,7 +61,7 @@ pub(crate) fn may_refuse(stores: &Stores, client: u32) -> bool
     let Some(request) = request_taken(stores, client) else {
         return false;
     };
-    match judged(stores, client, request) {
+    match judge(stores, client, request) {
         None => true,
         Some(judged) => judged.is_refused(is_test(request.flags)),
     }
@@ -76,7 +76,7 @@ pub(crate) fn may_test(stores: &Stores, client: u32) -> bool
     let Some(request) = request_taken(stores, client) else {
         return false;
     };
-    match judged(stores, client, request) {
+    match judge(stores, client, request) {
         None => false,
         Some(judged) => judged.is_accepted(is_test(request.flags)),
     }
@@ -92,15 +92,14 @@ pub(crate) fn may_swap(stores: &Stores, client: u32) -> bool
     let Some(request) = request_taken(stores, client) else {
         return false;
     };
-    match judged(stores, client, request) {
+    match judge(stores, client, request) {
         None => false,
         Some(judged) => judged.is_committed(is_test(request.flags)),
     }
 }
 
-/// The judgement of the request for which a client, by its number from 1, takes locks; none where an early refusal
-/// is due.
-pub(crate) fn judged(stores: &Stores, client: u32, request: &Request) -> Option<Judged>
+/// Judges the request for which a client, by its number from 1, takes locks; none where an early refusal is due.
+pub(crate) fn judge(stores: &Stores, client: u32, request: &Request) -> Option<Judged>
     requires { Some request.now ≡ request_taken stores.now.script (machine stores.now) client }
     ensures { IsJudged stores.now.script.topology (machine stores.now) client request.now result }
 {
@@ -132,7 +131,7 @@ pub fn refusal_reply(stores: &Stores, client: u32, request: &Request) -> Reply
     if let Some(why) = early(&stores.script.topology, request, &Now(&stores.things)) {
         return Reply::Refused(why);
     }
-    let Some(judged) = judged(stores, client, request) else {
+    let Some(judged) = judge(stores, client, request) else {
         unreachable!();
     };
     match (judged.late, judged.hindered) {
@@ -142,9 +141,9 @@ pub fn refusal_reply(stores: &Stores, client: u32, request: &Request) -> Reply
     }
 }
 
-/// What a check gives for a request for which no early or late refusal is due: the states of all objects before it and
-/// after it, and what it names and touches.
-pub fn checked(stores: &Stores, request: &Request) -> Checked
+/// Checks a request for which no early or late refusal is due: the states of all objects before it and after it, and
+/// what it names and touches.
+pub fn check_request(stores: &Stores, request: &Request) -> Checked
     requires { early_in stores.now.script.topology (world stores.now) request.now ≡ None }
     ensures checked { IsChecked stores.now.script.topology (world stores.now) request.now result }
     ensures states { HasStates result }
@@ -163,8 +162,12 @@ pub fn checked(stores: &Stores, request: &Request) -> Checked
     }
 }
 
-/// What such a request asks for.
-pub fn resolved(stores: &Stores, alloc: Global, request: &Request) -> Result<Resolved, NoMemory>
+/// Resolves what such a request asks for.
+pub fn resolve_request(
+    stores: &Stores,
+    alloc: Global,
+    request: &Request,
+) -> Result<Resolved, NoMemory>
     requires { early_in stores.now.script.topology (world stores.now) request.now ≡ None }
     ensures { IfOk result
         (IsResolved stores.now.script.topology (look_up (world stores.now)) request.now) }

@@ -17,7 +17,7 @@ ghost use Rattle.kms_core.specs.Order.{NeedsLocks, first_lacked, is_missing, is_
 ghost use Rattle.kms_core.specs.Run.{machine};
 
 use crate::next::groups::{Group, Needs};
-use crate::next::judging::{checked, is_member};
+use crate::next::judging::{check_request, is_member};
 use crate::next::moving::objects;
 use crate::stores::Stores;
 use kms_clients::Clients;
@@ -34,7 +34,7 @@ pub(crate) fn lock_step(stores: &Stores, client: u32, request: &Request) -> Opti
 {
     // The contract of a call that reads a field may rest on what holds of the machine: here that its script is well formed.
     let _ = &stores.script;
-    let checked = checked(stores, request);
+    let checked = check_request(stores, request);
     let needs = Needs {
         request,
         named: only_crtcs(checked.named),

@@ -8,7 +8,7 @@ use crate::machine::Core;
 use crate::next::client_steps::{
     may_back_off, may_begin, may_make, may_read, may_relock, may_signal,
 };
-use crate::next::judging::{judged, request_taken};
+use crate::next::judging::{judge, request_taken};
 use crate::next::lacking::lock_step;
 use crate::stores::Stores;
 use kms_model::{Request, Step};
@@ -66,7 +66,7 @@ fn taking_step(stores: &Stores, client: u32, request: &Request) -> Option<Step>
         ≡ request_taken stores.now.script (machine stores.now) client }
     ensures { result ≡ client_step stores.now.script (machine stores.now) client }
 {
-    let Some(judged) = judged(stores, client, request) else {
+    let Some(judged) = judge(stores, client, request) else {
         return Some(Step::Refuse { client });
     };
     let is_test = is_test(request.flags);

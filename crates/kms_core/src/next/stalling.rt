@@ -57,7 +57,7 @@ fn awaited_fence(stores: &Stores) -> Option<u32>
 {
     let mut from = 0;
     'seeking: while let Some(commit) = stores.tracker.first_from(from) {
-        if let Some(fence) = awaited_by(stores, commit) {
+        if let Some(fence) = fence_awaited_by(stores, commit) {
             return Some(fence);
         }
         from = commit + 1;
@@ -66,7 +66,7 @@ fn awaited_fence(stores: &Stores) -> Option<u32>
 }
 
 /// The first such fence that a commit, which is not claimed, waits for.
-fn awaited_by(stores: &Stores, commit: u32) -> Option<u32>
+fn fence_awaited_by(stores: &Stores, commit: u32) -> Option<u32>
     requires { commit < length (machine stores.now).device.commits }
     ensures { result ≡ awaited_by stores.now.script.topology (machine stores.now) commit }
 {
@@ -81,7 +81,7 @@ fn first_awaited(stores: &Stores, fences: &[Option<u32>; 16]) -> Option<u32>
     ensures { result ≡ find (is_awaited (machine stores.now)) (fence_ids fences.now) }
 {
     for fence in fences {
-        if let Some(id) = if_awaited(stores, *fence) {
+        if let Some(id) = keep_if_awaited(stores, *fence) {
             return Some(id);
         }
     }
@@ -89,7 +89,7 @@ fn first_awaited(stores: &Stores, fences: &[Option<u32>; 16]) -> Option<u32>
 }
 
 /// A fence, if any, that a `fence` made and that is not signalled.
-fn if_awaited(stores: &Stores, fence: Option<u32>) -> Option<u32>
+fn keep_if_awaited(stores: &Stores, fence: Option<u32>) -> Option<u32>
     ensures { result ≡ if_awaited (machine stores.now) fence }
 {
     match fence {

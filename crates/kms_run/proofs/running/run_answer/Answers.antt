@@ -10,9 +10,9 @@ use Rattle.kms_run.proofs.running.run_answer.Goals as goal
 pub returns : goal.returns
 returns g c =
     let parsed = c.in_ok-parsed.parsed in
-    let report = c.in_ok-run_told.field-0 in
+    let report = c.in_ok-run_and_report.field-0 in
     let asked : Execution = record { action = action.Run c.args.threads; options = c.args.options } in record {
       parts = parts_in parsed;
       spelled = subst (λ bytes. input_of part.Script bytes ≡ Ok (parts_in parsed)) c.deref.ensures.value c.in_ok-parsed.ensures.value;
-      report = subst (λ steps. IsReportOf asked parsed.script steps report.ended report.text) c.as_slice-steps.ensures.value c.in_ok-run_told.ensures;
+      report = subst (λ steps. IsReportOf asked parsed.script steps report.ended report.text) c.as_slice-steps.ensures.value c.in_ok-run_and_report.ensures;
     }

@@ -22,7 +22,7 @@ pub returns-then-not-is_step-clause-answer : goal.returns-then-not-is_step-claus
 returns-then-not-is_step-clause-answer c = λ client taking.
     let r = run_in c.stores.inside in
     let st = stores_of c.stores.inside in
-    c.locked_as.ensures
+    c.answer_with_state.ensures
     ∙ lock_answered r c.args.self.now st c.args.t c.args.id c.in-Some.client c.in-Some-present_state.state c.lock-answer.result
     c.stores.invariant.stands (c.stores.view_is ∙ c.deref_mut-stores.ensures.value ∙ c.self.view_is)
     (asks r c.args.self.now st c.args.t c.args.id c.in-Some.client c.stores.invariant.stands
@@ -47,7 +47,7 @@ pub returns-clause-answer : goal.returns-clause-answer
 returns-clause-answer c = λ client taking.
     let r = run_in c.stores.inside in
     let st = stores_of c.stores.inside in
-    c.locked_as-2.ensures
+    c.answer_with_state-2.ensures
     ∙ lock_answered r c.args.self.now st c.args.t c.args.id c.in-Some.client c.in-Some-present_state.state c.lock-answer.result
     c.stores.invariant.stands (c.stores.view_is ∙ c.deref_mut-stores.ensures.value ∙ c.self.view_is)
     (asks r c.args.self.now st c.args.t c.args.id c.in-Some.client c.stores.invariant.stands
@@ -61,9 +61,9 @@ returns-clause-history c = λ client taking.
     let r = run_in c.stores.inside in
     let st = stores_of c.stores.inside in
     lock_history r c.args.self.now st c.args.t c.args.id c.in-Some.client c.in-Some-present_state.state c.lock-answer.result
-    c.locked_as-2.result c.make_step_room.new.steps.items c.push.new.self.items
+    c.answer_with_state-2.result c.make_step_room.new.steps.items c.push.new.self.items
     (c.stores.view_is ∙ c.deref_mut-stores.ensures.value ∙ c.self.view_is)
     (asks r c.args.self.now st c.args.t c.args.id c.in-Some.client c.stores.invariant.stands
-    (c.stores.view_is ∙ c.deref_mut-stores.ensures.value ∙ c.self.view_is) c.requires c.in-Some.ensures.some) c.locked_as-2.ensures
+    (c.stores.view_is ∙ c.deref_mut-stores.ensures.value ∙ c.self.view_is) c.requires c.in-Some.ensures.some) c.answer_with_state-2.ensures
     (sym c.is_step.ensures ∙ c.if-not-is_step.false)
     c.in_ok-make_step_room.ensures.items (c.push.ensures.items ∙ ap (λ (x : Step). c.make_step_room.new.steps.items ++ x ∷ []) c.lock_step.ensures) client taking

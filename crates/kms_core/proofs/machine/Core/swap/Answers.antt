@@ -15,8 +15,8 @@ returns-in-Some-clause-answer c =
     (swap_answer c.args.self.now (taker (machine c.args.self.now) c.args.t.0)) c.again.result c.stores.invariant.stands
     (c.stores.view_is ∙ c.deref_mut-stores.ensures.value ∙ c.self.view_is) c.in-Some.ensures c.again.ensures
 
-pub hindered-requires : goal.hindered-requires
-hindered-requires c =
+pub refuse_or_put_off-requires : goal.refuse_or_put_off-requires
+refuse_or_put_off-requires c =
     let seen = c.deref_mut-stores.ensures.value ∙ c.self.view_is in
     ready_as (run_in c.stores.inside) c.deref_mut-stores.result.now
     (stores_of c.stores.inside) c.args.t.0 c.args.used.now c.args.checked.now
@@ -34,7 +34,7 @@ returns-in-Some-2-clause-answer c =
 
 pub returns-in-Some-2-clause-history : goal.returns-in-Some-2-clause-history
 returns-in-Some-2-clause-history c =
-    steps_as (run_in c.stores.inside) c.deref_mut-stores.result.now c.hindered.new.stores (stores_of c.stores.inside) c.args.t.0
+    steps_as (run_in c.stores.inside) c.deref_mut-stores.result.now c.refuse_or_put_off.new.stores (stores_of c.stores.inside) c.args.t.0
     c.taker-client.result _ c.in-Some-2.decided c.stores.invariant.stands c.stores.view_is
     c.taker-client.ensures (sym c.in-Some-2.is) c.in_ok-decided.ensures.history
     ∙ ap (λ (w : Run). gains w (steps_of (taker (machine w) c.args.t.0) (step.Swap (taker (machine w) c.args.t.0)) c.in-Some-2.decided))
@@ -43,7 +43,7 @@ returns-in-Some-2-clause-history c =
 pub commit-requires : goal.commit-requires
 commit-requires c =
     let seen = c.deref_mut-stores.ensures.value ∙ c.self.view_is in
-    commit_as (run_in c.stores.inside) c.deref_mut-stores.result.now c.hindered.new.stores (stores_of c.stores.inside) c.args.t.0
+    commit_as (run_in c.stores.inside) c.deref_mut-stores.result.now c.refuse_or_put_off.new.stores (stores_of c.stores.inside) c.args.t.0
     c.args.used.now c.args.checked.now c.args.resolved.now c.taker-client.result _ c.stores.invariant.stands
     c.stores.view_is c.in_default.ensures
     (subst (λ (w : Run). MaySwap w c.args.t.0 c.args.used.now c.args.checked.now c.args.resolved.now) (sym seen) c.requires)
@@ -53,7 +53,7 @@ pub returns-clause-answer : goal.returns-clause-answer
 returns-clause-answer c = (
   fresh_now (run_in c.stores.inside) c.args.self.now (stores_of c.stores.inside) c.args.used.now c.stores.invariant.stands
       (c.stores.view_is ∙ c.deref_mut-stores.ensures.value ∙ c.self.view_is) c.in_default.ensures,
-  committed_as (run_in c.stores.inside) c.deref_mut-stores.result.now c.hindered.new.stores (stores_of c.stores.inside) c.args.t.0
+  committed_as (run_in c.stores.inside) c.deref_mut-stores.result.now c.refuse_or_put_off.new.stores (stores_of c.stores.inside) c.args.t.0
       c.taker-client.result c.in_ok-commit.commit _ c.stores.invariant.stands c.stores.view_is
       c.taker-client.ensures (sym c.in_default-2.is) c.in_ok-decided.ensures.history c.in_ok-decided.ensures.answer
       c.in_ok-commit.ensures.number
@@ -62,7 +62,7 @@ returns-clause-answer c = (
 
 pub returns-clause-history : goal.returns-clause-history
 returns-clause-history c =
-    gained_as (run_in c.stores.inside) c.deref_mut-stores.result.now c.hindered.new.stores c.commit.new.stores (stores_of c.stores.inside)
+    gained_as (run_in c.stores.inside) c.deref_mut-stores.result.now c.refuse_or_put_off.new.stores c.commit.new.stores (stores_of c.stores.inside)
     c.args.t.0 c.taker-client.result _ c.stores.invariant.stands c.stores.view_is
     c.taker-client.ensures (sym c.in_default-2.is) c.in_ok-decided.ensures.history c.in_ok-commit.ensures.history
     ∙ ap (λ (w : Run). gains w (step.Swap (taker (machine w) c.args.t.0) ∷ [])) (c.deref_mut-stores.ensures.value ∙ c.self.view_is)

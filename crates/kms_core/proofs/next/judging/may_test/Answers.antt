@@ -9,7 +9,7 @@ returns-in_default c = no_test c.args.stores.now.script (machine c.args.stores.n
 pub returns-in-None : goal.returns-in-None
 returns-in-None c = test_early c.args.stores.now.script (machine c.args.stores.now) c.args.client c.in-Some.request.now c.in-Some.ensures c.in-None.ensures
 
-pub returns-in-Some-judged : goal.returns-in-Some-judged
-returns-in-Some-judged c =
+pub returns-in-Some-judge : goal.returns-in-Some-judge
+returns-in-Some-judge c =
     c.is_accepted.ensures
-    ∙ test_late c.args.stores.now.script (machine c.args.stores.now) c.args.client c.in-Some.request.now c.in-Some.ensures c.in-Some-judged.judged c.in-Some-judged.ensures c.is_test.result c.is_test.ensures
+    ∙ test_late c.args.stores.now.script (machine c.args.stores.now) c.args.client c.in-Some.request.now c.in-Some.ensures c.in-Some-judge.judged c.in-Some-judge.ensures c.is_test.result c.is_test.ensures

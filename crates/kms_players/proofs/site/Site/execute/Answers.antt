@@ -17,7 +17,7 @@ returns-in_err-_reply-in-Signal-clause-no_step g c = OnErr-always c.from_residua
 
 pub returns-in_ok-_reply-in-Signal-clause-turn : goal.returns-in_ok-_reply-in-Signal-clause-turn
 returns-in_ok-_reply-in-Signal-clause-turn g c =
-    subst (PlainTurn c.args.self.now.device.now.script c.args.self.now.client c.args.pass.now c.signal.new.pass) (sym c.answered.ensures)
+    subst (PlainTurn c.args.self.now.device.now.script c.args.self.now.client c.args.pass.now c.signal.new.pass) (sym c.come_to_gate.ensures)
     (step.Signal c.args.self.now.client, signalled_it _ _ c.args.self.now.client _ _ c.in_ok-_reply-in-Signal.ensures)
 
 pub make-requires : goal.make-requires
@@ -38,7 +38,7 @@ returns-in_err-_reply-in_default g c = record {
 pub returns-in_ok-_reply-in_default : goal.returns-in_ok-_reply-in_default
 returns-in_ok-_reply-in_default g c = record {
   turn =
-      subst (PlainTurn c.args.self.now.device.now.script c.args.self.now.client c.args.pass.now c.make.new.pass) (sym c.answered-in_default.ensures)
+      subst (PlainTurn c.args.self.now.device.now.script c.args.self.now.client c.args.pass.now c.make.new.pass) (sym c.come_to_gate-in_default.ensures)
       (step.Make c.args.self.now.client, made_it _ _ c.args.self.now.client _ _ c.in_ok-_reply-in_default.ensures);
   no_step = tt;
 }
