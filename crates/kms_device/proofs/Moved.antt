@@ -208,5 +208,10 @@ module _ (script : Script) (p : DevicePass) (kept : Attempt) (ticket : Ticket) (
     may_test_by test = record { request = request; deciding = deciding; resolved = resolved; accepted = accepted_with; test = test }
 
     pub may_swap_by : is_test request.flags ≡ false → MayBeSwapped R p.rank ticket used checked resolved
-    may_swap_by no_test = record { request = request; deciding = deciding; accepted = accepted_with;
-        states = all.states; no_test = no_test }
+    may_swap_by no_test = record {
+      request = request;
+      deciding = deciding;
+      accepted = accepted_with;
+      states = all.states;
+      no_test = no_test;
+    }

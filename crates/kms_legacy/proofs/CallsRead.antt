@@ -1,7 +1,6 @@
 -- A call that was read may stand in a script over the device, and its line says its labels and makes none.
-use Rattle.std.proofs.Common.{◌≡◌, ℕ, ◌+◌, ◌≤◌, ◌^◌, Bool, true, false, inl, inr, List, [], ◌∷◌, cond, Option, Some, None, ℤ, refl, sym, ap, subst, ◌∙◌}
+use Rattle.std.proofs.Common.{◌≡◌, ℕ, ◌^◌, Bool, true, inl, inr, List, Option, Some, None, ℤ, refl, sym, ap, subst, ◌∙◌}
 use Rattle.std.specs.Prelude.{◌&&◌, codes, nat_le, nat_lt, option_map}
-use Rattle.std.specs.Option.{option_map_or}
 use Rattle.std.specs.Str.{bytes_eq}
 use Rattle.std.proofs.lemmas.Bool.{and_from, le-leb}
 use Rattle.kms_model.specs.declared.legacy.LegacyCall.{LegacyCall}
@@ -13,15 +12,15 @@ use Rattle.kms_model.specs.declared.pictures.Rect.{Rect}
 use Rattle.kms_model.specs.declared.properties.TheConstants.{CRTC_X, CRTC_Y, CRTC_W, CRTC_H, SRC_X, SRC_Y, SRC_W, SRC_H}
 use Rattle.kms_model.specs.Device.Objects.{exists}
 use Rattle.kms_model.specs.Legacy.LegacyCalls.{call_may_stand, call_read, corner_at, cursor_fields, cursor_read, destination_at, event_word, index_at, is_number, is_off, is_rect, named_at, pageflip_read, part_at, ranged_at, rect_at, setcrtc_fields, setcrtc_read, setplane_fields, setplane_read}
-use Rattle.kms_model.specs.Script.CommandLines.{Names, place, saying, was_made}
+use Rattle.kms_model.specs.Script.CommandLines.{Names, place, saying}
 use Rattle.kms_model.specs.Script.Grammar.{int}
 use Rattle.kms_model.specs.Script.WellFormed.{is_label_in}
-use Rattle.kms_model.specs.Script.Words.{◌>>=◌, dec_at, end_at, field_at, from, is_label, read_at, strip, until}
+use Rattle.kms_model.specs.Script.Words.{dec_at, end_at, field_at, from, is_label, read_at, strip, until}
 use Rattle.kms_script.proofs.FitWords.{dec_at_fit, long_fit}
 use Rattle.kms_script.proofs.Inverted.{choice_some, from_bind, if_some, map_some, or_some, some_same}
 use Rattle.kms_script.proofs.LabelsMade.{said_keeps}
 use Rattle.kms_script.proofs.NamesBegin.{Begins, before_saying, said_word}
-use Rattle.kms_legacy.specs.Translating.{IsFitCall, is_call_in}
+use Rattle.kms_legacy.specs.Translating.{is_call_in}
 use Rattle.kms_legacy.proofs.SameLabels.{SameMade}
 
 -- Words

@@ -1,8 +1,8 @@
 -- The words of a command: their bytes can be printed and are no blanks, they are short, and there are few of them.
-use Rattle.std.proofs.Common.{◌≡◌, ℕ, zero, suc, ◌+◌, ◌*◌, ◌/◌, ◌%◌, ◌<◌, ◌≤◌, ◌^◌, Bool, true, false, List, [], ◌∷◌, ◌++◌, codes, cond, length, length-append, map, Option, Some, None, ℤ, pos, negsuc, refl, sym, ap, subst, ◌∙◌, arith, append_assoc, append-nil}
-use Rattle.std.specs.Prelude.{◌&&◌, ◌||◌, ◌==◌, int_le, nat_le, nat_lt, not}
+use Rattle.std.proofs.Common.{◌≡◌, ℕ, zero, suc, ◌+◌, ◌*◌, ◌/◌, ◌%◌, ◌<◌, ◌≤◌, ◌^◌, Bool, true, false, List, [], ◌∷◌, ◌++◌, codes, length, length-append, map, ℤ, pos, negsuc, refl, sym, ap, ◌∙◌, arith, append-nil}
+use Rattle.std.specs.Prelude.{◌&&◌, ◌||◌, ◌==◌, int_le, nat_le, nat_lt}
 use Rattle.std.specs.Fmt.{decimal, digit_glyph, digits, signed_decimal}
-use Rattle.std.specs.List.{AllByRecursion, flat_map, list_all}
+use Rattle.std.specs.List.{AllByRecursion, list_all}
 use Rattle.std.proofs.lemmas.Bool.{and_from, and_parts, eqb-true, le-leb, leb-true, ltb-true}
 use Rattle.std.proofs.lemmas.Bool.Decides.{nat_tests}
 use Rattle.std.proofs.lemmas.Fmt.{length-decimal-le}
@@ -18,14 +18,12 @@ use Rattle.kms_model.specs.declared.scripts.Command.{Command}
 use Rattle.kms_model.specs.declared.scripts.Command.TheVariants as command
 use Rattle.kms_model.specs.declared.scripts.Pattern.{Pattern}
 use Rattle.kms_model.specs.declared.scripts.Pattern.TheVariants.{Solid, Checker, Ramp, Pixels}
-use Rattle.kms_model.specs.declared.scripts.PropRef.{PropRef}
-use Rattle.kms_model.specs.declared.scripts.PropRef.TheVariants.{Known, Unknown}
 use Rattle.kms_model.specs.declared.scripts.Value.{Value}
 use Rattle.kms_model.specs.declared.scripts.Value.TheVariants as value
 use Rattle.kms_model.specs.Report.Replies.{kind_name}
 use Rattle.kms_model.specs.Report.TextLines.{line}
 use Rattle.kms_model.specs.Script.CommandLines.{is_over}
-use Rattle.kms_model.specs.Script.Grammar.{digits_of, field_words, is_printable, is_property_byte, is_property_word}
+use Rattle.kms_model.specs.Script.Grammar.{field_words, is_printable, is_property_byte, is_property_word}
 use Rattle.kms_model.specs.Script.Spelling.{assign_word, blob_word, command_words, format_word, hex_digits, hex_word, name_word, pattern_words, pixel_word, property_word, spelt_mode, value_word}
 use Rattle.kms_model.specs.Script.WellFormed.{are_words16, has_widths, is_assign_in, is_command_in, is_integer, is_label_in, is_mode_name, is_pattern_of, is_property_in, is_value_in, is_word16, is_word32}
 use Rattle.kms_model.specs.Script.Words.{between, is_digit, is_hex, is_label, is_label_rest, is_letter, is_name_byte, until}

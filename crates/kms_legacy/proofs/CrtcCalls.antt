@@ -17,7 +17,7 @@ use Rattle.kms_model.specs.declared.worlds.World.{World}
 use Rattle.kms_model.specs.Device.Objects.{first_id, ids_of, indices_of, object_id}
 use Rattle.kms_model.specs.Device.Sound.{IsLawful, IsSound}
 use Rattle.kms_model.specs.Device.States.{crtc_at, gamma_of, mode_at, mode_of, natural, plane_at}
-use Rattle.kms_model.specs.Device.World.{thing_numbered, value}
+use Rattle.kms_model.specs.Device.World.{thing_numbered}
 use Rattle.kms_model.specs.Firsts.{first_some, or_else}
 use Rattle.kms_model.specs.Frames.Pictures.{mode_area}
 use Rattle.kms_model.specs.Legacy.Screen.{Lit, Placed, Screen, lit_at, lit_in, placed_in_mode, with_lit, with_placed}
@@ -115,7 +115,9 @@ has_conn t w q crtc m none lt mode free =
     each x is =
         let o = ids-in t Conn x is in
         elim (cases_Bool (crtc_at (after w q) x == object_id Crtc crtc)) [
-          | inl on ↦ absurd (free o.index o.within (subst (λ n. crtc_at (after w q) n ≡ object_id Crtc crtc) o.same (eqb-true (crtc_at (after w q) x) (object_id Crtc crtc) on)))
+          | inl on ↦ absurd (free o.index o.within
+              (subst (λ n. crtc_at (after w q) n ≡ object_id Crtc crtc) o.same
+              (eqb-true (crtc_at (after w q) x) (object_id Crtc crtc) on)))
           | inr off ↦ off
         ]
 

@@ -3,11 +3,10 @@ use Rattle.std.proofs.Common.{◌≡◌, ℕ, ◌+◌, ◌≤◌, ◌⊎◌, inl
 use Rattle.std.specs.Prelude.{◌&&◌, ◌||◌, ◌==◌, codes, is_some, not, nat_le, nat_lt}
 use Rattle.std.specs.List.{list_all}
 use Rattle.std.specs.Str.{bytes_eq}
-use Rattle.std.proofs.lemmas.Bool.{and_parts, eqb-true, false≢true}
+use Rattle.std.proofs.lemmas.Bool.{eqb-true, false≢true}
 use Rattle.std.proofs.lemmas.Bool.Decides.{nat_tests}
-use Rattle.kms_model.specs.declared.objects.Topology.{Topology}
 use Rattle.kms_model.specs.declared.scripts.Why.TheVariants.{Bytes, Cut, Form, Limit}
-use Rattle.kms_model.specs.Script.CommandLines.{Names, command_read, unless, unmade}
+use Rattle.kms_model.specs.Script.CommandLines.{Names, command_read, unmade}
 use Rattle.kms_model.specs.Script.Grammar.{is_printable}
 use Rattle.kms_model.specs.Script.InputLines.{Row}
 use Rattle.kms_model.specs.Script.WholeInput.{Draft, Lined, blank_draft, client_line, command_line, conn_at, conn_line, crtcs_at, crtcs_line, first_line, is_conn_of, is_done, is_nil, later_line, line_after, plane_fields, plane_line, script_limit, script_line, sized, topology_in, version_read}

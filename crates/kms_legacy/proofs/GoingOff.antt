@@ -1,5 +1,5 @@
 -- The connectors that go off a CRTC, found one by one.
-use Rattle.std.proofs.Common.{◌≡◌, ℕ, Bool, true, false, not, List, [], ◌∷◌, ◌++◌, map, cond, Option, Some, None, refl, ap}
+use Rattle.std.proofs.Common.{◌≡◌, ℕ, Bool, true, false, not, List, [], ◌∷◌, ◌++◌, map, cond, Option, Some, None, refl}
 use Rattle.std.specs.Prelude.{◌&&◌, ◌==◌, filter}
 use Rattle.std.specs.List.{flat_map}
 use Rattle.kms_model.specs.declared.objects.Kind.TheVariants.{Crtc}
@@ -7,7 +7,7 @@ use Rattle.kms_model.specs.declared.scripts.Assign.{Assign}
 use Rattle.kms_model.specs.Device.Objects.{object_id}
 use Rattle.kms_model.specs.Legacy.Translation.{Present}
 use Rattle.kms_model.specs.Script.Assigning.{conn_off}
-use Rattle.kms_legacy.specs.Asked.{all_but, goes_off, is_other}
+use Rattle.kms_legacy.specs.Asked.{all_but, goes_off}
 
 -- a connector is on a CRTC
 abbrev on_it : Present → ℕ → ℕ → Bool

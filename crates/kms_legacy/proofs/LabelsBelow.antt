@@ -1,6 +1,6 @@
 -- The things that a command makes are under labels that its line says.
-use Rattle.std.proofs.Common.{◌≡◌, ℕ, zero, suc, ◌+◌, ◌<◌, ◌≤◌, ◌^◌, Bool, true, false, inl, inr, List, [], ◌∷◌, ◌++◌, cond, length, Option, Some, None, refl, sym, subst, arith}
-use Rattle.std.specs.Prelude.{◌&&◌, ◌==◌, nat_le, nat_lt}
+use Rattle.std.proofs.Common.{◌≡◌, ℕ, zero, suc, ◌+◌, ◌<◌, ◌≤◌, ◌^◌, Bool, true, false, inl, inr, List, [], ◌∷◌, ◌++◌, cond, length, Option, Some, None, refl, subst, arith}
+use Rattle.std.specs.Prelude.{◌==◌, nat_le, nat_lt}
 use Rattle.std.specs.List.{AllByRecursion, list_all}
 use Rattle.std.proofs.lemmas.Bool.{and_parts}
 use Rattle.kms_model.specs.declared.objects.Topology.{Topology}
@@ -12,11 +12,10 @@ use Rattle.kms_model.specs.declared.scripts.Request.{Request}
 use Rattle.kms_model.specs.declared.scripts.Value.{Value}
 use Rattle.kms_model.specs.declared.scripts.Value.TheVariants as value
 use Rattle.kms_model.specs.declared.worlds.Content.{Content}
-use Rattle.kms_model.specs.declared.worlds.Content.TheVariants as content
 use Rattle.kms_model.specs.declared.worlds.Thing.{Thing}
 use Rattle.kms_model.specs.declared.worlds.World.{World}
-use Rattle.kms_model.specs.Device.Closing.{closed_if, closed_in}
-use Rattle.kms_model.specs.Device.Execution.{BufferInfo, Executed, add_fb, answer, buffer_of, close, close_refusal, close_unless, commit, committed, destroy_refusal, execute, make, make_out_fence, make_out_fences, make_unless, new_buffer_refusal, signal_refusal, signal_unless}
+use Rattle.kms_model.specs.Device.Closing.{closed_in}
+use Rattle.kms_model.specs.Device.Execution.{BufferInfo, Executed, add_fb, answer, buffer_of, close_refusal, close_unless, commit, committed, destroy_refusal, execute, make, make_out_fence, make_out_fences, make_unless, new_buffer_refusal, signal_refusal, signal_unless}
 use Rattle.kms_model.specs.Device.Objects.{ids_of}
 use Rattle.kms_model.specs.Device.World.{thing_labelled}
 use Rattle.kms_model.specs.declared.objects.Kind.TheVariants.{Crtc}
@@ -25,7 +24,6 @@ use Rattle.kms_model.specs.Request.Flags.{is_test}
 use Rattle.kms_model.specs.Request.Touched.{last_value, new_label, out_fence_label, value_if}
 use Rattle.kms_model.specs.Request.Verdict.{verdict}
 use Rattle.kms_model.specs.declared.properties.TheConstants.{OUT_FENCE_PTR}
-use Rattle.kms_model.specs.Script.Spelling.{name_word}
 use Rattle.kms_model.specs.Script.WellFormed.{is_assign_in, is_command_in, is_label_in, is_property_in, is_value_in, is_word32}
 use Rattle.kms_model.specs.Script.Words.{is_label}
 use Rattle.kms_model.proofs.Facts.{cond_holds, or_else-some}

@@ -1,10 +1,10 @@
 -- A script with older calls that bytes spell, line by line: its device, the line `client`, and the lines of commands.
-use Rattle.std.proofs.Common.{◌≡◌, ℕ, ◌+◌, ◌≤◌, ◌⊎◌, inl, inr, Bool, true, false, List, [], ◌∷◌, ◌++◌, codes, cond, append-nil, append_assoc, length, Option, Some, None, Ok, Err, refl, sym, ap, subst, ◌∙◌, arith}
-use Rattle.std.specs.Prelude.{◌&&◌, ◌||◌, Result, is_some, nat_le, nat_lt, option_map}
+use Rattle.std.proofs.Common.{◌≡◌, ℕ, ◌+◌, ◌≤◌, ◌⊎◌, inl, inr, Bool, true, false, List, [], ◌∷◌, ◌++◌, codes, cond, append-nil, append_assoc, length, Some, None, Ok, Err, refl, sym, ap, subst, ◌∙◌, arith}
+use Rattle.std.specs.Prelude.{◌&&◌, ◌||◌, nat_le, nat_lt, option_map}
 use Rattle.std.specs.List.{list_all}
 use Rattle.std.specs.Result.{result_ok}
 use Rattle.std.specs.Str.{bytes_eq}
-use Rattle.std.proofs.lemmas.Bool.{and_parts, cases_Bool}
+use Rattle.std.proofs.lemmas.Bool.{cases_Bool}
 use Rattle.std.proofs.lemmas.Bool.Decides.{nat_tests}
 use Rattle.kms_model.specs.declared.legacy.LegacyCall.{LegacyCall}
 use Rattle.kms_model.specs.declared.legacy.LegacyCommand.{LegacyCommand}
@@ -19,8 +19,8 @@ use Rattle.kms_model.specs.Script.CommandLines.{Names, command_read, unmade, wor
 use Rattle.kms_model.specs.Script.Grammar.{is_printable}
 use Rattle.kms_model.specs.Script.InputLines.{Row, rows_of}
 use Rattle.kms_model.specs.Script.Spelling.{lined, spelt_line, spelt_lines}
-use Rattle.kms_model.specs.Script.WholeInput.{Draft, Lined, blank_draft, conn_at, is_nil, script_line, topology_in}
-use Rattle.kms_model.specs.Script.Words.{from, until}
+use Rattle.kms_model.specs.Script.WholeInput.{Draft, Lined, blank_draft, is_nil, script_line, topology_in}
+use Rattle.kms_model.specs.Script.Words.{until}
 use Rattle.kms_script.proofs.Accepted.{form_ok, ok_same, unless_ok}
 use Rattle.kms_script.proofs.Inverted.{bind_some, if_some, map_some, some_same}
 use Rattle.kms_script.proofs.NamesBegin.{Begins}

@@ -1,12 +1,11 @@
 -- Commands that are passed, one after the other, are the translation of those of the old script, with all names that the new
 -- one says in the end.
-use Rattle.std.proofs.Common.{◌≡◌, ℕ, suc, ◌+◌, ◌<◌, ◌≤◌, ◌⊎◌, inl, inr, Bool, true, false, not, cond, arith, List, [], ◌∷◌, ◌++◌, get_or, take, length, length-append, map, append-nil, append_assoc, Option, Some, None, refl, sym, ap, subst, ◌∙◌}
-use Rattle.std.specs.Prelude.{◌==◌, nat_lt, option_map}
+use Rattle.std.proofs.Common.{◌≡◌, ℕ, suc, ◌+◌, ◌<◌, ◌≤◌, ◌⊎◌, inl, inr, Bool, true, false, not, cond, arith, List, [], ◌∷◌, ◌++◌, get_or, take, length, length-append, append-nil, append_assoc, Option, Some, None, refl, sym, ap, subst, ◌∙◌}
+use Rattle.std.specs.Prelude.{◌==◌, nat_lt}
 use Rattle.std.specs.List.{AllByRecursion, position_or_len}
 use Rattle.std.specs.Str.{bytes_eq}
 use Rattle.std.proofs.lemmas.Bool.Decides.{nat_tests}
 use Rattle.std.proofs.lemmas.List.{length-map, take_more}
-use Rattle.std.specs.Result.{result_ok}
 use Rattle.kms_model.specs.declared.legacy.LegacyCall.{LegacyCall}
 use Rattle.kms_model.specs.declared.legacy.LegacyCall.TheVariants as call
 use Rattle.kms_model.specs.declared.legacy.LegacyCommand.{LegacyCommand}
@@ -20,7 +19,6 @@ use Rattle.kms_model.specs.declared.worlds.World.{World}
 use Rattle.kms_model.specs.Device.Execution.{execute}
 use Rattle.kms_model.specs.Device.World.{thing_labelled}
 use Rattle.kms_model.specs.Legacy.Translated.{AreTranslated, SaysNext, SaysSame, after_line, fb_of_call, look_anew, meant, mode_of_call, translated}
-use Rattle.kms_model.specs.Legacy.Translation.{call_request, present_in}
 use Rattle.kms_model.specs.Request.Lookups.{look_of, look_up}
 use Rattle.kms_model.specs.Request.Sets.{fb_of_look, mode_of_look}
 use Rattle.kms_model.specs.Script.CommandLines.{Name, Names, words_in}

@@ -1,12 +1,11 @@
 -- Rows behind the line `client`, one after the other.
-use Rattle.std.proofs.Common.{◌≡◌, ℕ, ◌+◌, false, List, [], ◌∷◌, length, Ok, Err, refl, ap, sym, ◌∙◌}
+use Rattle.std.proofs.Common.{◌≡◌, ℕ, ◌+◌, false, List, [], ◌∷◌, length, Ok, Err, refl}
 use Rattle.std.specs.Prelude.{Result}
 use Rattle.std.proofs.lemmas.List.{nil_from_length}
 use Rattle.kms_model.specs.declared.legacy.LegacyScript.{LegacyScript}
-use Rattle.kms_model.specs.Legacy.LegacyLines.{LegacyDraft, LegacyLined, legacy_drafted, legacy_line_after, legacy_lines_after, legacy_script_in, or_legacy_fault}
+use Rattle.kms_model.specs.Legacy.LegacyLines.{LegacyDraft, legacy_drafted, legacy_line_after, legacy_lines_after, legacy_script_in}
 use Rattle.kms_model.specs.Script.InputLines.{Fault, Row, rows_of}
 use Rattle.kms_model.specs.Script.WholeInput.{is_nil}
-use Rattle.kms_script.specs.declared.faults.ParseError.{ParseError}
 use Rattle.kms_script.specs.declared.stop.Stop.{Stop}
 use Rattle.kms_script.specs.declared.stop.Stop.TheVariants as stops
 use Rattle.kms_script.specs.Drafted.{error_at}

@@ -1,16 +1,14 @@
 -- The text of the new script: the lines of the device, of the client, and of the commands that were said.
-use Rattle.std.proofs.Common.{◌≡◌, ℕ, suc, ◌+◌, ◌≤◌, ◌<◌, inl, inr, Bool, true, false, not, List, [], ◌∷◌, ◌++◌, codes, cond, append-nil, append_assoc, length, length-append, map, Option, Some, None, Ok, Err, refl, sym, ap, subst, ◌∙◌, arith}
-use Rattle.std.specs.Prelude.{◌&&◌, ◌||◌, ◌==◌, Result, nat_le, nat_lt, option_map}
+use Rattle.std.proofs.Common.{◌≡◌, ℕ, suc, ◌+◌, ◌≤◌, inl, inr, Bool, true, false, List, [], ◌∷◌, ◌++◌, codes, length, length-append, map, Option, Some, None, Ok, Err, refl, sym, ap, subst, ◌∙◌, arith}
+use Rattle.std.specs.Prelude.{◌||◌, Result, nat_le, nat_lt}
 use Rattle.std.specs.Fmt.{decimal}
 use Rattle.std.specs.List.{AllByRecursion, list_all}
 use Rattle.std.specs.Result.{result_ok}
 use Rattle.std.specs.Str.{bytes_eq}
-use Rattle.std.proofs.lemmas.Bool.{and_parts}
 use Rattle.std.proofs.lemmas.Bool.Decides.{nat_tests}
 use Rattle.kms_model.specs.declared.legacy.LegacyCall.{LegacyCall}
 use Rattle.kms_model.specs.declared.legacy.LegacyCommand.{LegacyCommand}
 use Rattle.kms_model.specs.declared.legacy.LegacyCommand.TheVariants.{Plain, Call}
-use Rattle.kms_model.specs.declared.legacy.LegacyScript.{LegacyScript}
 use Rattle.kms_model.specs.declared.objects.Topology.{Topology}
 use Rattle.kms_model.specs.declared.scripts.Command.{Command}
 use Rattle.kms_model.specs.declared.scripts.Command.TheVariants as command
@@ -19,23 +17,22 @@ use Rattle.kms_model.specs.declared.worlds.World.{World}
 use Rattle.kms_model.specs.Legacy.Translated.{fb_of_call, look_anew, meant, mode_of_call, translated}
 use Rattle.kms_model.specs.Legacy.Translation.{present_in}
 use Rattle.kms_model.specs.Report.TextLines.{line}
-use Rattle.kms_model.specs.Script.CommandLines.{Names, command_read, is_over, unmade, words_in}
+use Rattle.kms_model.specs.Script.CommandLines.{Names, command_read, is_over, words_in}
 use Rattle.kms_model.specs.Script.Grammar.{is_printable}
-use Rattle.kms_model.specs.Script.InputLines.{Row, rows_of}
+use Rattle.kms_model.specs.Script.InputLines.{Row}
 use Rattle.kms_model.specs.Script.Spelling.{assign_word, blob_word, command_words, format_word, hex_word, name_word, pattern_words, spelt_line, spelt_lines, spelt_mode}
 use Rattle.kms_model.specs.Script.WellFormed.{IsFitCommand, is_command_in}
-use Rattle.kms_model.specs.Script.WholeInput.{Draft, command_line, is_nil, later_line, script_line}
-use Rattle.kms_model.specs.Script.Words.{from, until}
-use Rattle.kms_words.specs.Printed.{fields}
-use Rattle.kms_script.specs.ReadAnew.{IsLineOf, IsReadBack, RequestsAreReadBack, makes_nothing}
+use Rattle.kms_model.specs.Script.WholeInput.{Draft, command_line, later_line, script_line}
+use Rattle.kms_model.specs.Script.Words.{until}
+use Rattle.kms_script.specs.ReadAnew.{IsLineOf, RequestsAreReadBack, makes_nothing}
 use Rattle.kms_script.proofs.Inverted.{map_some, some_same}
 use Rattle.kms_script.proofs.NamesBegin.{Begins}
 use Rattle.kms_script.proofs.ProfileStays.{command_stays}
 use Rattle.kms_script.proofs.RowsAgain.{ended_row}
-use Rattle.kms_script.proofs.SpeltCommands.{command_spelt, names_begin}
+use Rattle.kms_script.proofs.SpeltCommands.{command_spelt}
 use Rattle.kms_legacy.specs.declared.script.Going.{Going}
 use Rattle.kms_legacy.specs.Reading.{device_part}
-use Rattle.kms_legacy.specs.Translating.{ArePassed, IsLeft, IsPassed, IsSaidAnew, said_names}
+use Rattle.kms_legacy.specs.Translating.{ArePassed, IsLeft, IsSaidAnew, said_names}
 use Rattle.kms_legacy.proofs.CallsRead.{call_is}
 use Rattle.kms_legacy.proofs.CommandWords.{AreWords, IsSpaced, command_spaced, has_keyword, text_of_words, text_printable}
 use Rattle.kms_legacy.proofs.LegacyWalk.{AreRead, IsReadLine, begins_of, line_kind}

@@ -1,5 +1,5 @@
 -- A call's CRTC is one of the largest device, and a number of a property has few bits.
-use Rattle.std.proofs.Common.{◌≡◌, ℕ, Bool, true, ℤ, pos, negsuc, Option, Some, None, refl, rules, arith}
+use Rattle.std.proofs.Common.{◌≡◌, ℕ, Bool, true, ℤ, pos, negsuc, Option, Some, None, refl, arith}
 use Rattle.std.specs.Prelude.{◌&&◌, IfSome, int_le}
 use Rattle.std.specs.List.{list_all}
 use Rattle.std.proofs.lemmas.Bool.{and_parts, ltb-true}

@@ -1,12 +1,12 @@
 -- What is read of a whole input, or its first fault.
-use Rattle.std.proofs.Common.{◌≡◌, ℕ, ◌≤◌, ◌<◌, Bool, true, false, List, length, Ok, Err, refl, sym, ap, subst, ◌∙◌, arith}
-use Rattle.std.specs.Prelude.{IfOk, Result, nat_lt}
+use Rattle.std.proofs.Common.{ℕ, ◌≤◌, List, length, Ok, Err, refl, sym, subst}
+use Rattle.std.specs.Prelude.{IfOk, Result}
 use Rattle.std.proofs.lemmas.Bool.{le-ltb}
 use Rattle.kms_model.specs.declared.legacy.LegacyScript.{LegacyScript}
 use Rattle.kms_model.specs.declared.objects.Topology.{Topology}
 use Rattle.kms_model.specs.Device.Sound.{IsDevice}
-use Rattle.kms_model.specs.Legacy.LegacyLines.{SpellsLegacy, legacy_drafted, legacy_input}
-use Rattle.kms_model.specs.Script.InputLines.{Fault, input_limit}
+use Rattle.kms_model.specs.Legacy.LegacyLines.{SpellsLegacy, legacy_input}
+use Rattle.kms_model.specs.Script.InputLines.{input_limit}
 use Rattle.kms_model.specs.Script.WholeInput.{device_of}
 use Rattle.kms_script.specs.declared.faults.ParseError.{ParseError}
 use Rattle.kms_script.specs.declared.faults.ParseError.TheVariants as errors

@@ -1,7 +1,7 @@
 -- What the accepted requests of calls leave of a plane, and that those of one plane alone keep the screen.
-use Rattle.std.proofs.Common.{◌≡◌, ℕ, ◌+◌, ◌<◌, ◌≤◌, Bool, true, false, List, [], ◌∷◌, ◌++◌, cond, length, Option, Some, None, pos, refl, sym, ap, subst, ◌∙◌, arith}
+use Rattle.std.proofs.Common.{◌≡◌, ℕ, ◌<◌, ◌≤◌, Bool, true, false, List, [], ◌∷◌, ◌++◌, cond, length, Option, Some, None, pos, refl, sym, ap, subst, ◌∙◌, arith}
 use Rattle.std.specs.Bool.{⊤}
-use Rattle.std.specs.Prelude.{◌==◌, ◌&&◌, is_some}
+use Rattle.std.specs.Prelude.{◌==◌, is_some}
 use Rattle.std.specs.Result.{result_ok}
 use Rattle.std.proofs.lemmas.Bool.{eq-eqb, eqb-true, or_parts}
 use Rattle.std.proofs.lemmas.Bool.Decides.{nat_tests}
@@ -375,10 +375,10 @@ pub put_after : (w : World) (front : List Assign) (plane crtc label : ℕ) (info
     → HasPlaced (plane_at w.things (apply w.things w.values (front ++ plane_on plane crtc label dst src)) (object_id Plane plane))
     (record { crtc = crtc; fb = info; dst = dst; src = src })
 put_after w front plane crtc label info dst src numbered named =
-    let assigns : List Assign = plane_on plane crtc label dst src in
-    let object : ℕ = object_id Plane plane in
     let same : (object_id Plane plane == object_id Plane plane) ≡ true = same_plane plane in
-    let v = λ (q : ℕ) (x : Value) (kept : is_kept q ≡ true) (last : last_value (plane_on plane crtc label dst src) (object_id Plane plane) q ≡ Some x). value_behind w front (plane_on plane crtc label dst src) (object_id Plane plane) q x kept last in
+    let v = λ (q : ℕ) (x : Value) (kept : is_kept q ≡ true)
+    (last : last_value (plane_on plane crtc label dst src) (object_id Plane plane) q ≡ Some x).
+    value_behind w front (plane_on plane crtc label dst src) (object_id Plane plane) q x kept last in
     let fb = v FB_ID (value.Named label) refl (rw same refl) in
     let on = v CRTC_ID (value.Crtc crtc) refl (rw same refl) in
     let dx = v CRTC_X (value.Num dst.x) refl (rw same refl) in

@@ -1,9 +1,8 @@
 -- The request of a call is one that words of the old script's names spell, and it makes no label.
-use Rattle.std.proofs.Common.{◌≡◌, ℕ, zero, suc, ◌+◌, ◌*◌, ◌<◌, ◌≤◌, ◌^◌, Bool, true, false, not, List, [], ◌∷◌, ◌++◌, cond, length, length-append, map, Option, Some, None, Ok, Err, ℤ, pos, negsuc, refl, sym, ap, subst, ◌∙◌, arith}
-use Rattle.std.specs.Prelude.{◌&&◌, ◌==◌, Result, filter, int_le, is_some, nat_le, nat_lt, ⊤}
+use Rattle.std.proofs.Common.{◌≡◌, ℕ, zero, suc, ◌+◌, ◌*◌, ◌<◌, ◌≤◌, ◌^◌, Bool, true, false, not, List, [], ◌∷◌, ◌++◌, cond, length, length-append, map, Option, Some, None, Ok, Err, ℤ, pos, negsuc, refl, ap, subst, ◌∙◌, arith}
+use Rattle.std.specs.Prelude.{◌==◌, Result, filter, nat_le, nat_lt}
 use Rattle.std.specs.List.{list_all, range_with_len}
-use Rattle.std.proofs.lemmas.Bool.{and_from, and_parts, le-leb, leb-true, lt-ltb, ltb-true}
-use Rattle.std.proofs.lemmas.List.{length-map}
+use Rattle.std.proofs.lemmas.Bool.{and_from, and_parts, le-leb, leb-true, ltb-true}
 use Rattle.std.proofs.lemmas.List.Folds.{list_all-append}
 use Rattle.kms_model.specs.declared.flags.TheConstants.{ALLOW_MODESET, NONBLOCK, PAGE_FLIP_EVENT}
 use Rattle.kms_model.specs.declared.legacy.LegacyCall.{LegacyCall}
@@ -13,25 +12,23 @@ use Rattle.kms_model.specs.declared.objects.Mode.{Mode}
 use Rattle.kms_model.specs.declared.objects.Topology.{Topology}
 use Rattle.kms_model.specs.declared.pictures.FbInfo.{FbInfo}
 use Rattle.kms_model.specs.declared.pictures.Rect.{Rect}
-use Rattle.kms_model.specs.declared.properties.TheConstants.{FB_ID, CRTC_ID, CRTC_X, CRTC_Y, CRTC_W, CRTC_H, SRC_X, SRC_Y, SRC_W, SRC_H, ACTIVE, MODE_ID}
+use Rattle.kms_model.specs.declared.properties.TheConstants.{FB_ID, CRTC_ID, CRTC_X, CRTC_Y, CRTC_W, CRTC_H, SRC_X, SRC_Y, SRC_W, SRC_H}
 use Rattle.kms_model.specs.declared.scripts.Assign.{Assign}
-use Rattle.kms_model.specs.declared.scripts.Command.TheVariants as command
 use Rattle.kms_model.specs.declared.scripts.Request.{Request}
 use Rattle.kms_model.specs.declared.scripts.Value.TheVariants as value
-use Rattle.kms_model.specs.Device.Objects.{count_of, exists, indices_of, object_id}
+use Rattle.kms_model.specs.Device.Objects.{exists, indices_of, object_id}
 use Rattle.kms_model.specs.Device.Properties.{keeps_limits}
 use Rattle.kms_model.specs.Device.Sound.{IsDevice}
-use Rattle.kms_model.specs.Legacy.LegacyCalls.{call_may_stand, is_number, is_rect}
+use Rattle.kms_model.specs.Legacy.LegacyCalls.{is_number, is_rect}
 use Rattle.kms_model.specs.Legacy.Translation.{Present, asks, call_request, changes_format, conns_now, crtc_on, cursor, fb_size, flip_request, in_fixed, mode_size, others, plane_on, primary, sized_at, special_plane, with_plane}
 use Rattle.kms_model.specs.Request.Resolves.{IsSettableNumber}
 use Rattle.kms_model.specs.Script.Assigning.{conn_off, crtc_off, plane_off}
 use Rattle.kms_model.specs.Script.Generated.{assigns_to}
 use Rattle.kms_model.specs.Script.WellFormed.{is_assign_in, is_integer, is_label_in, is_word32}
-use Rattle.kms_model.specs.Script.Words.{between}
 use Rattle.kms_model.proofs.RequestLemmas.{has_few}
 use Rattle.kms_script.specs.ReadAnew.{IsSaid, makes_nothing}
 use Rattle.kms_legacy.specs.Asked.{HasFbSize, HasModeSize}
-use Rattle.kms_legacy.specs.Translating.{IsFitCall, is_call_in}
+use Rattle.kms_legacy.specs.Translating.{IsFitCall}
 use Rattle.kms_legacy.proofs.Numbers.{narrow}
 use Rattle.kms_legacy.proofs.SamePresent.{special_within}
 

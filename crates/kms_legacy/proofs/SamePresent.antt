@@ -1,6 +1,6 @@
 -- A call reads of a world what it reads of the states of all objects there.
-use Rattle.std.proofs.Common.{◌≡◌, ℕ, zero, suc, ◌+◌, ◌<◌, Bool, true, false, List, [], ◌∷◌, ◌++◌, length, map, Option, Some, None, inl, inr, Ok, Err, refl, sym, ap, ◌∙◌, arith}
-use Rattle.std.specs.Prelude.{◌==◌, ◌&&◌, Result, filter, find, is_some, not, option_and_then, pos}
+use Rattle.std.proofs.Common.{◌≡◌, ℕ, zero, suc, ◌+◌, ◌<◌, Bool, true, List, length, Option, Some, None, inl, inr, refl, ap, ◌∙◌, arith}
+use Rattle.std.specs.Prelude.{◌==◌, ◌&&◌, Result, is_some, not, option_and_then}
 use Rattle.std.specs.List.{range_with_len}
 use Rattle.std.specs.Option.{option_map_or}
 use Rattle.kms_model.specs.declared.legacy.LegacyCall.{LegacyCall}
@@ -15,12 +15,11 @@ use Rattle.kms_model.specs.declared.states.ConnState.{ConnState}
 use Rattle.kms_model.specs.declared.states.Duplicates.{Duplicates}
 use Rattle.kms_model.specs.declared.states.PlaneState.{PlaneState}
 use Rattle.kms_model.specs.declared.worlds.World.{World}
-use Rattle.kms_model.specs.Device.Masks.{has_bit}
 use Rattle.kms_model.specs.Device.Objects.{indices_of, object_id}
 use Rattle.kms_model.specs.Device.Places.{state_at}
-use Rattle.kms_model.specs.Device.States.{crtc_at, plane_at}
+use Rattle.kms_model.specs.Device.States.{plane_at}
 use Rattle.kms_model.specs.Legacy.Translated.{fb_of_call, look_anew, mode_of_call, translated}
-use Rattle.kms_model.specs.Legacy.Translation.{Present, call_request, conns_now, cursor, flip_request, least_plane, present_in, present_of, primary, special_plane, special_planes, suits, with_plane}
+use Rattle.kms_model.specs.Legacy.Translation.{Present, call_request, conns_now, flip_request, present_in, present_of, primary, special_plane, special_planes, suits, with_plane}
 use Rattle.kms_model.specs.Machine.Commits.{has_number}
 use Rattle.kms_model.specs.Request.Agreement.{AreOld, conn_state_at}
 use Rattle.kms_model.proofs.Items.{IsIn, filter-same}

@@ -386,7 +386,8 @@ line_shown t old c names after l begun = elim (line_kind t names l.text c after 
   | inl called ↦ subst (IsShownLine old t) (sym called.is) (call_is t names l.text called.call after called.read).stands
   | inr other ↦ subst (IsShownLine old t) (sym other.is) (λ text is.
       ap (λ (xs : List ℕ). bytes_eq (until 32 xs) (codes "atomic"))
-      (text_same old other.command text l.text is (sym (command_spelt old names after l.text other.command other.read begun))) ∙ other.other)
+      (text_same old other.command text l.text is (sym (command_spelt old names after l.text other.command other.read begun)))
+      ∙ other.other)
 ]
 
 lines_shown : (t : Topology) (old : List (List ℕ)) (cs : List LegacyCommand) (names last : Names) → AreRead t names cs last

@@ -1,15 +1,12 @@
 -- A device whose values are those of a screen shows it.
-use Rattle.std.proofs.Common.{◌≡◌, ℕ, zero, suc, ◌+◌, ◌<◌, ◌≤◌, Bool, true, false, inl, inr, List, [], ◌∷◌, cond, length, map, Option, Some, None, ℤ, pos, refl, sym, ap, subst, ◌∙◌, arith, rules}
-use Rattle.std.specs.Prelude.{◌==◌, ◌&&◌, filter, nat_lt, not, option_map}
-use Rattle.std.specs.List.{cons_option, filter_map, range_with_len}
-use Rattle.std.specs.Ordering.{int_eq}
-use Rattle.std.proofs.lemmas.Bool.{eq-eqb, eqb-true}
+use Rattle.std.proofs.Common.{◌≡◌, ℕ, zero, suc, ◌+◌, ◌<◌, ◌≤◌, Bool, true, false, inl, inr, List, [], ◌∷◌, cond, length, map, Option, Some, None, pos, refl, sym, ap, ◌∙◌, arith}
+use Rattle.std.specs.Prelude.{◌==◌, filter, nat_lt, option_map}
+use Rattle.std.specs.List.{filter_map, range_with_len}
+use Rattle.std.proofs.lemmas.Bool.{eq-eqb}
 use Rattle.std.proofs.lemmas.Bool.Decides.{nat_tests}
 use Rattle.kms_model.specs.declared.objects.Kind.TheVariants.{Crtc, Plane, Conn}
 use Rattle.kms_model.specs.declared.objects.Mode.{Mode}
 use Rattle.kms_model.specs.declared.objects.Topology.{Topology}
-use Rattle.kms_model.specs.declared.pictures.FbInfo.{FbInfo}
-use Rattle.kms_model.specs.declared.pictures.Layer.{Layer}
 use Rattle.kms_model.specs.declared.properties.TheConstants.{ACTIVE}
 use Rattle.kms_model.specs.declared.states.PlaneState.{PlaneState}
 use Rattle.kms_model.specs.declared.worlds.Setting.{Setting}
@@ -18,7 +15,7 @@ use Rattle.kms_model.specs.Device.Objects.{first_id, ids_of, indices_of, object_
 use Rattle.kms_model.specs.Device.Sound.{IsSound, empty_request}
 use Rattle.kms_model.specs.Device.States.{connector_on, crtc_at, gamma_at, mode_at, plane_at}
 use Rattle.kms_model.specs.Device.World.{value}
-use Rattle.kms_model.specs.Frames.Pictures.{clip, layer_of, layers_of, layers_with, mode_area, picture, picture_in, seen_on, shown_with}
+use Rattle.kms_model.specs.Frames.Pictures.{layer_of, layers_of, picture, seen_on}
 use Rattle.kms_model.specs.Legacy.Screen.{Lit, Placed, Screen, ShowsScreen, lit_at, lit_picture, placed_at, placed_layer, screen_layer, screen_picture}
 use Rattle.kms_model.specs.Firsts.{first_some}
 use Rattle.kms_model.specs.Request.Checks.{clone_refusal_at, conn_refusal_at, conns_on, crtc_refusal_at, event_refusal, late_refusal, plane_refusal_at, with_ids}

@@ -1,6 +1,6 @@
 -- A script with older calls that is read of bytes is spelt by them: the bytes of lines so far change nothing but whether a script
 -- may have them.
-use Rattle.std.proofs.Common.{◌≡◌, ℕ, ◌+◌, Bool, true, false, List, [], ◌∷◌, length, cond, Option, Some, None, Ok, Err, refl, sym, ap, ◌∙◌}
+use Rattle.std.proofs.Common.{◌≡◌, ℕ, ◌+◌, Bool, true, false, List, [], ◌∷◌, length, cond, Option, Some, None, Ok, Err, refl, ap, ◌∙◌}
 use Rattle.std.specs.Prelude.{Result, nat_lt, not, option_map}
 use Rattle.std.specs.List.{list_all}
 use Rattle.kms_model.specs.declared.legacy.LegacyCommand.{LegacyCommand}
@@ -12,7 +12,7 @@ use Rattle.kms_model.specs.Legacy.LegacyLines.{LegacyDraft, LegacyLined, SpellsL
 use Rattle.kms_model.specs.Script.CommandLines.{or_form, unless}
 use Rattle.kms_model.specs.Script.Grammar.{is_printable}
 use Rattle.kms_model.specs.Script.InputLines.{Fault, Row, input_limit, rows_of}
-use Rattle.kms_model.specs.Script.WholeInput.{Draft, Lined, is_nil, missing_line, script_limit, script_line, sized, topology_in}
+use Rattle.kms_model.specs.Script.WholeInput.{Draft, Lined, is_nil, missing_line, script_limit, script_line, topology_in}
 use Rattle.kms_script.proofs.Accepted.{on_from, unless_ok}
 use Rattle.kms_script.proofs.Sizes.{line_same, relined, resized}
 

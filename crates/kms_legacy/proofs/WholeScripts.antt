@@ -1,11 +1,10 @@
 -- A script that was translated command by command is a translation.
-use Rattle.std.proofs.Common.{◌≡◌, ℕ, ◌+◌, ◌≤◌, inl, inr, Bool, true, false, List, [], ◌∷◌, ◌++◌, cond, length, append-nil, Some, None, refl, sym, ap, subst, ◌∙◌, arith}
-use Rattle.std.specs.Prelude.{All, option_map}
+use Rattle.std.proofs.Common.{◌≡◌, ℕ, ◌≤◌, inl, inr, Bool, true, false, List, [], ◌∷◌, ◌++◌, length, append-nil, Some, refl, sym, ap, subst, ◌∙◌, arith}
+use Rattle.std.specs.Prelude.{option_map}
 use Rattle.std.specs.List.{AllByRecursion, IsDistinct, flat_map}
 use Rattle.std.specs.Str.{bytes_eq}
 use Rattle.std.proofs.lemmas.Bool.{cases_Bool}
 use Rattle.kms_model.specs.declared.legacy.LegacyCommand.{LegacyCommand}
-use Rattle.kms_model.specs.declared.legacy.LegacyCommand.TheVariants.{Plain, Call}
 use Rattle.kms_model.specs.declared.legacy.LegacyScript.{LegacyScript}
 use Rattle.kms_model.specs.declared.objects.Topology.{Topology}
 use Rattle.kms_model.specs.declared.scripts.Command.{Command}
@@ -14,13 +13,13 @@ use Rattle.kms_model.specs.declared.worlds.World.{World}
 use Rattle.kms_model.specs.Device.World.{start}
 use Rattle.kms_model.specs.Legacy.Translated.{AreTranslated, IsTranslated, lone_commands}
 use Rattle.kms_model.specs.Script.CommandLines.{Names, unmade, words_in}
-use Rattle.kms_model.specs.Script.InputLines.{Row, rows_of}
+use Rattle.kms_model.specs.Script.InputLines.{Row}
 use Rattle.kms_model.specs.Script.Spelling.{Spells, spelt_lines}
 use Rattle.kms_model.specs.Script.WellFormed.{IsFitClient, IsFitCommand, IsWellFormed}
 use Rattle.kms_model.specs.Script.WholeInput.{Draft, blank_draft, clients_of, is_nil, script_in}
 use Rattle.kms_model.proofs.Facts.{all-from_recursion}
 use Rattle.kms_words.specs.Fitting.{KeepsLimits}
-use Rattle.kms_commands.specs.Named.{HeldNames, kept}
+use Rattle.kms_commands.specs.Named.{HeldNames}
 use Rattle.kms_script.specs.ReadAnew.{FormsNeedNoNames, RequestsAreReadBack}
 use Rattle.kms_script.proofs.Formed.{well_formed}
 use Rattle.kms_script.proofs.NamesBegin.{Begins}
@@ -33,10 +32,10 @@ use Rattle.kms_legacy.specs.Translating.{ArePassed, IsAtStart, IsFitLegacy, IsFi
 use Rattle.kms_legacy.proofs.CallsRead.{call_is}
 use Rattle.kms_legacy.proofs.LabelsBelow.{AreBelow}
 use Rattle.kms_legacy.proofs.LegacyWalk.{AreRead, IsReadLine, IsWalked, begins_of, legacy_walk, line_kind, line_stays}
-use Rattle.kms_legacy.proofs.LinesAnew.{own_names, plain_anew}
+use Rattle.kms_legacy.proofs.LinesAnew.{plain_anew}
 use Rattle.kms_legacy.proofs.LinesLed.{Leads, SaysAll, leads}
 use Rattle.kms_legacy.proofs.SameLabels.{SameMade}
-use Rattle.kms_legacy.proofs.NewText.{NewLines, new_draft, new_lines}
+use Rattle.kms_legacy.proofs.NewText.{new_draft, new_lines}
 
 -- Each command may be translated.
 

@@ -40,8 +40,11 @@ abbrev pub one : Topology
 one = record { profile = 1; crtcs = 1; planes = record { kind = 1; crtcs = 1; formats = 1 } ∷ []; conns = 1 ∷ [] }
 
 abbrev pub turns_off : Request
-turns_off = record { flags = PAGE_FLIP_EVENT; user_data = 9;
-    assigns = record { kind = kind.Crtc; index = 0; prop = Known ACTIVE; value = value.Num (pos 0) } ∷ [] }
+turns_off = record {
+  flags = PAGE_FLIP_EVENT;
+  user_data = 9;
+  assigns = record { kind = kind.Crtc; index = 0; prop = Known ACTIVE; value = value.Num (pos 0) } ∷ [];
+}
 
 abbrev pub commit : Commit
 commit = record { client = 1; command = 1; request = turns_off; world = start one }

@@ -61,9 +61,12 @@ first_is [] from rising = λ j above. refl
 first_is (s ∷ slots) from rising =
     elim (cases_lt s.id from) [
       | inl less ↦ rw (le_false from s.id less) (behind (first_from slots from) less (first_is slots from rising.1))
-      | inr here ↦ rw (le_true from s.id here)
-          (here, rw (eq-eqb s.id s.id refl) refl, λ j above low. rw (ne_eqb s.id j (λ e. absurd (omega (arith, low, e))))
-          (value-absent slots j (others_above j s.id slots (omega (arith, low)) rising.0)))
+      | inr here ↦ rw (le_true from s.id here) (
+        here,
+        rw (eq-eqb s.id s.id refl) refl,
+        λ j above low. rw (ne_eqb s.id j (λ e. absurd (omega (arith, low, e))))
+            (value-absent slots j (others_above j s.id slots (omega (arith, low)) rising.0)),
+      )
     ]
   where
     behind : (o : Option ℕ) → s.id < from → IsFirstOf slots from o → IsFirstOf (s ∷ slots) from o

@@ -211,8 +211,16 @@ module _ (r : Run) (st : Stores) (client : ℕ) (checked : Checked) (resolved : 
       → steps ≡ r.steps → journal.items ≡ st.journal.items → replies.items ≡ st.replies.items → shown.items ≡ st.latches.items → made ≡ st.made → fences.slots ≡ roomy_fences.slots
       → was ≡ slice_index_or st.queues (client - 1) d → KeepsStored st.fences roomy_fences was queue st.tracker tracker
       → Stands (record { script = r.script; steps = steps })
-      (record st { journal = journal; replies = replies; latches = shown; made = made; fences = fences; queues = slice_set st.queues
-      (client - 1) queue; tracker = tracker })
+      (record st {
+        journal = journal;
+        replies = replies;
+        latches = shown;
+        made = made;
+        fences = fences;
+        queues = slice_set st.queues
+            (client - 1) queue;
+        tracker = tracker;
+      })
   roomy journal replies shown made fences roomy_fences was d queue tracker steps is same_journal same_replies same_shown
       same_made same_set at kept =
       let mine = found_queue was d at in
@@ -466,8 +474,16 @@ module _ (r : Run) (st : Stores) (client : ℕ) (checked : Checked) (resolved : 
   out_fences_stand = rw left.commits out_fences_made_now
 
   committed_stands : StandsAt r.script (next r.script (machine r) (step.Swap client))
-      (record st { clients = clients; journal = journal; replies = replies; made = made; present = present; fences = fences;
-      queues = slice_set queues (client - 1) queue; tracker = tracker })
+      (record st {
+        clients = clients;
+        journal = journal;
+        replies = replies;
+        made = made;
+        present = present;
+        fences = fences;
+        queues = slice_set queues (client - 1) queue;
+        tracker = tracker;
+      })
   committed_stands = record {
     clients = clients_stand;
     recorded = recorded;
@@ -484,9 +500,25 @@ module _ (r : Run) (st : Stores) (client : ℕ) (checked : Checked) (resolved : 
 
   pub commits : (before steps : List Step) → before ≡ r.steps → steps ≡ before ++ step.Swap client ∷ []
       → Stands (record { script = r.script; steps = steps })
-      (record st { clients = clients; journal = journal; replies = replies; made = made; present = present; fences = fences;
-      queues = slice_set queues (client - 1) queue; tracker = tracker })
+      (record st {
+        clients = clients;
+        journal = journal;
+        replies = replies;
+        made = made;
+        present = present;
+        fences = fences;
+        queues = slice_set queues (client - 1) queue;
+        tracker = tracker;
+      })
   commits before steps is more =
-      goes_on r st (record st { clients = clients; journal = journal; replies = replies; made = made; present = present; fences = fences;
-      queues = slice_set queues (client - 1) queue; tracker = tracker }) (step.Swap client) refl refl has.counted steps
+      goes_on r st (record st {
+        clients = clients;
+        journal = journal;
+        replies = replies;
+        made = made;
+        present = present;
+        fences = fences;
+        queues = slice_set queues (client - 1) queue;
+        tracker = tracker;
+      }) (step.Swap client) refl refl has.counted steps
       (more ∙ ap (λ (xs : List Step). xs ++ step.Swap client ∷ []) is) stands can.legal committed_stands

@@ -100,8 +100,11 @@ affected_alike r st request checked stands none is all =
     ap (λ (o : Option _). is_some o) (there_is checked.states.crtcs i) ∙ all.crtcs i (omega (arith, within, few)) bit) in
     ap (λ named. affected_below checked.states.crtcs named 4) is.named
     ∙ affected-is t w request checked.states
-    (record { at = record { device = stands.formed.device; sound = (presented r st stands).sound; early = none };
-    old = is.old; new = is.new }) there
+    (record {
+      at = record { device = stands.formed.device; sound = (presented r st stands).sound; early = none };
+      old = is.old;
+      new = is.new;
+    }) there
 
 abbrev only_crtcs : ℕ → Mask
 only_crtcs crtcs = record { crtcs = crtcs; planes = 0; conns = 0 }

@@ -63,7 +63,7 @@ module _ (r v : Run) (st : Stores) (k : ℕ) (stands : Stands r st) (same : r �
       (elim (cases_lt k (length (machine r).device.commits)) [
         | inl within ↦
             cleaned (subst (λ (o : Option Tail). IsKept r.script.topology (machine r).device.commits (machine r).device.marks
-                (machine r).records.latches k o) (sym gone) (stands.stores.tracker.kept k within)).0
+            (machine r).records.latches k o) (sym gone) (stands.stores.tracker.kept k within)).0
         | inr above ↦
             false_from_ne_true (may r.script (machine r) step)
             (λ may_be. (let within = legal_below r.script (going (machine r)) step k st.tracker of_commit

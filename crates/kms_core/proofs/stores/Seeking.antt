@@ -114,8 +114,14 @@ find_first p a (suc n) k low high passes fails =
 pub few_tails : (r : Run) (st : Stores) → Stands r st → AreFewCommits st.tracker
 few_tails r st stands =
     let fit = (numbers_fit r.script r.steps stands.formed stands.history).commits in
-    record { topology = r.script.topology; commits = (machine r).device.commits; marks = (machine r).device.marks;
-    latches = (machine r).records.latches; stand = stands.stores.tracker; few = omega (arith, fit) }
+    record {
+      topology = r.script.topology;
+      commits = (machine r).device.commits;
+      marks = (machine r).device.marks;
+      latches = (machine r).records.latches;
+      stand = stands.stores.tracker;
+      few = omega (arith, fit);
+    }
 
 -- the fences that a commit waits for were made
 pub waited_made : (r : Run) (st : Stores) (k id : ℕ) → Stands r st → k < length (machine r).device.commits → IsIn id (waited_fences r.script.topology (machine r).device.commits k) → is_made st.fences id ≡ true

@@ -246,8 +246,16 @@ pub blanks_with : (r v : Run) (st : Stores) (k crtc count : ℕ) (picture : Pict
     → AreAllOf ids (λ id. picture_names id (decoded_picture r.script.topology (machine r).device.live (object_id Crtc crtc)))
     → Frees st.made made st.present new tracker r.script.topology.crtcs ids st.freed freed
     → Stands (record { script = r.script; steps = steps })
-    (record st { latches = shown; fences = fences; queues = queues; tracker = tracker; registers = new; goes = slice_set st.goes crtc None;
-    freed = freed; made = made })
+    (record st {
+      latches = shown;
+      fences = fences;
+      queues = queues;
+      tracker = tracker;
+      registers = new;
+      goes = slice_set st.goes crtc None;
+      freed = freed;
+      made = made;
+    })
 blanks_with r v st k crtc count picture new tracker fences queues shown steps stands same asked more has ids freed made all frees =
     let s = r.script in
     let t = s.topology in
@@ -265,8 +273,14 @@ blanks_with r v st k crtc count picture new tracker fences queues shown steps st
     let picture_is : picture ≡ latched_picture t d c = picture_from (go_at d c) (latched_picture t d c) picture (has.tells t d S.registers) in
     let one : n.records.latches ≡ l ∷ m.records.latches =
     registers_follow.vblank_recorded s m k crtc B.go ∙ (λ i. record { crtc = sym index_is i; commit = k; count = sym count_is i; picture = sym picture_is i } ∷ m.records.latches) in
-    goes_latching r st (record st { latches = shown; fences = fences; queues = queues; tracker = tracker; registers = new;
-    goes = slice_set st.goes crtc None }) (step.Vblank Crtc crtc) c ids freed made
+    goes_latching r st (record st {
+      latches = shown;
+      fences = fences;
+      queues = queues;
+      tracker = tracker;
+      registers = new;
+      goes = slice_set st.goes crtc None;
+    }) (step.Vblank Crtc crtc) c ids freed made
     (latches_by s m n c l
     (changes s m (step.Vblank Crtc crtc) (blanks_legal r v crtc same asked)) index_is B.is_crtc one) all frees refl steps more stands
     (blanks_legal r v crtc same asked)

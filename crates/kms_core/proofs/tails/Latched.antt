@@ -111,8 +111,14 @@ pub stands_shown : (s : Script) (m n : Machine) (st : Stores) (latched : Logged 
     (tracker : Tracking) (registers : RegisterFile) (goes : List (Option ℕ))
     → AreShown s m n latched fences queues tracker registers goes
     → ((id : ℕ) → is_made st.fences id ≡ true → is_made fences id ≡ true) → StandsAt s m st
-    → StandsAt s n (record st { latches = latched; fences = fences; queues = queues; tracker = tracker;
-    registers = registers; goes = goes })
+    → StandsAt s n (record st {
+      latches = latched;
+      fences = fences;
+      queues = queues;
+      tracker = tracker;
+      registers = registers;
+      goes = goes;
+    })
 stands_shown s m n st latched fences queues tracker registers goes shown more stands =
     let S = shown.same in
     record {

@@ -11,5 +11,7 @@ cleanup-over-requires c = cleanup_asked c.args.core.now
     (c.stores.view_is ∙ c.deref-stores.ensures ∙ c.core.view_is)) c.args.commit c.requires
 
 pub returns : goal.returns
-returns c = record { history = c.cleanup-over.ensures.history ∙ ap (λ b. gains c.args.core.now (cleanup_steps c.args.commit b))
-    (c.cleanup-over.ensures.answer ∙ cleanup_done c.args.core.now c.args.commit c.requires) }
+returns c = record {
+  history = c.cleanup-over.ensures.history ∙ ap (λ b. gains c.args.core.now (cleanup_steps c.args.commit b))
+      (c.cleanup-over.ensures.answer ∙ cleanup_done c.args.core.now c.args.commit c.requires);
+}

@@ -7,5 +7,7 @@ pub read-requires : goal.read-requires
 read-requires c = read_asked c.args.core.now c.args.client c.requires
 
 pub returns : goal.returns
-returns c = record { history = c.in_ok-_reply.ensures.history
-    ∙ ap (gains c.args.core.now) (read_done c.args.core.now c.args.client c.in_ok-_reply._reply c.requires c.in_ok-_reply.ensures.reply) }
+returns c = record {
+  history = c.in_ok-_reply.ensures.history
+      ∙ ap (gains c.args.core.now) (read_done c.args.core.now c.args.client c.in_ok-_reply._reply c.requires c.in_ok-_reply.ensures.reply);
+}

@@ -11,5 +11,7 @@ return_from-requires c = return_asked c.args.core.now
     (c.stores.view_is ∙ c.deref-stores.ensures ∙ c.core.view_is)) c.args.client c.requires
 
 pub returns : goal.returns
-returns c = record { history = c.in_ok-_over.ensures.history ∙ ap (λ b. gains c.args.core.now (return_step c.args.client b))
-    (c.in_ok-_over.ensures.answer ∙ return_done c.args.core.now c.args.client c.requires) }
+returns c = record {
+  history = c.in_ok-_over.ensures.history ∙ ap (λ b. gains c.args.core.now (return_step c.args.client b))
+      (c.in_ok-_over.ensures.answer ∙ return_done c.args.core.now c.args.client c.requires);
+}

@@ -1,10 +1,10 @@
-use Rattle.std.proofs.Common.{◌≡◌, ◌+◌, ℕ, false, Ok, length, ap, sym, subst, ◌∙◌, arith, rules}
+use Rattle.std.proofs.Common.{◌≡◌, false, Ok, length, ap, sym, subst, ◌∙◌, arith, rules}
 use Rattle.kms_model.specs.declared.objects.Topology.{Topology}
 use Rattle.kms_model.specs.Legacy.LegacyLines.{legacy_lines_after, legacy_drafted}
 use Rattle.kms_model.specs.Script.InputLines.{rows_of}
 use Rattle.kms_model.specs.Script.WholeInput.{is_nil}
 use Rattle.kms_script.specs.Drafted.{row_in}
-use Rattle.kms_legacy.specs.Reading.{device_draft, lines_in}
+use Rattle.kms_legacy.specs.Reading.{lines_in}
 use Rattle.kms_legacy.proofs.LinesOn.{lines_end, next_line, stopped}
 use Rattle.kms_legacy.proofs.reading.behind_client.Goals as goal
 

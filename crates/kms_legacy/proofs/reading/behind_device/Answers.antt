@@ -1,13 +1,13 @@
-use Rattle.std.proofs.Common.{◌≡◌, ◌+◌, ◌-◌, ◌≤◌, ℕ, true, false, Ok, Err, List, ◌∷◌, drop, length, take, ap, sym, subst, ◌∙◌, arith, rules}
+use Rattle.std.proofs.Common.{◌≡◌, ◌+◌, ◌-◌, ℕ, true, false, Ok, Err, List, ◌∷◌, drop, length, take, ap, sym, subst, ◌∙◌, arith, rules}
 use Rattle.std.specs.Prelude.{Result}
 use Rattle.std.proofs.lemmas.List.{length-drop, take_all}
 use Rattle.kms_model.specs.declared.legacy.LegacyScript.{LegacyScript}
 use Rattle.kms_model.specs.Legacy.LegacyLines.{blank_legacy_draft, legacy_drafted, legacy_lines_after}
-use Rattle.kms_model.specs.Script.InputLines.{Fault, Row, rows_of}
+use Rattle.kms_model.specs.Script.InputLines.{Fault, rows_of}
 use Rattle.kms_script.specs.Drafted.{error_at, row_in}
 use Rattle.kms_script.specs.Stated.{Gives}
 use Rattle.kms_legacy.specs.Reading.{device_draft, line_behind}
-use Rattle.kms_legacy.proofs.LinesOn.{client_stopped, lines_end, next_line, read_on}
+use Rattle.kms_legacy.proofs.LinesOn.{client_stopped, lines_end, next_line}
 use Rattle.kms_legacy.proofs.reading.behind_device.Goals as goal
 
 -- what stands from a place on, as a slice of its own

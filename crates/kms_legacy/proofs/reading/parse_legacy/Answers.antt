@@ -1,4 +1,4 @@
-use Rattle.std.proofs.Common.{◌≤◌, length, rules, arith}
+use Rattle.std.proofs.Common.{◌≤◌, length, rules}
 use Rattle.kms_model.specs.declared.legacy.LegacyScript.{LegacyScript}
 use Rattle.kms_model.specs.Legacy.LegacyLines.{legacy_input}
 use Rattle.kms_model.specs.Script.InputLines.{input_limit}

@@ -1,8 +1,7 @@
-use Rattle.std.proofs.Common.{◌≡◌, sym, ap, subst, ◌∙◌}
+use Rattle.std.proofs.Common.{subst}
 use Rattle.kms_model.specs.declared.objects.Topology.{Topology}
 use Rattle.kms_model.specs.declared.scripts.Command.TheVariants as command
 use Rattle.kms_model.specs.declared.scripts.Request.{Request}
-use Rattle.kms_model.specs.Legacy.Translated.{translated}
 use Rattle.kms_model.specs.Legacy.Translation.{call_request, present_of}
 use Rattle.kms_model.specs.Script.CommandLines.{words_in}
 use Rattle.kms_things.specs.Present.{IsPresent}

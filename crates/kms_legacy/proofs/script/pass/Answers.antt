@@ -1,4 +1,4 @@
-use Rattle.std.proofs.Common.{◌≡◌, Ok, Err, sym, subst}
+use Rattle.std.proofs.Common.{◌≡◌, Err, sym, subst}
 use Rattle.kms_model.specs.declared.legacy.LegacyCommand.{LegacyCommand}
 use Rattle.kms_model.specs.declared.scripts.Command.TheVariants as command
 use Rattle.kms_model.specs.Legacy.Translated.{translated}

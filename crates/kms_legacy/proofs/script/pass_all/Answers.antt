@@ -1,4 +1,4 @@
-use Rattle.std.proofs.Common.{◌+◌, ◌*◌, ◌≤◌, ℕ, List, subst, arith}
+use Rattle.std.proofs.Common.{ℕ, List, subst, arith}
 use Rattle.kms_legacy.specs.Translating.{IsPassed}
 use Rattle.kms_legacy.proofs.LinesLed.{one_passed}
 use Rattle.kms_legacy.proofs.Saying.{next_over}

@@ -1,4 +1,4 @@
-use Rattle.std.proofs.Common.{◌≡◌, ℕ, ◌+◌, ◌≤◌, ◌^◌, true, List, length, refl, sym, ap, subst, ◌∙◌, arith}
+use Rattle.std.proofs.Common.{◌≡◌, ℕ, ◌≤◌, true, List, length, sym, ap, subst, arith}
 use Rattle.std.specs.Prelude.{is_some}
 use Rattle.kms_model.specs.Script.CommandLines.{command_read}
 use Rattle.kms_script.specs.ReadAnew.{IsLineOf}

@@ -29,8 +29,11 @@ invariant_of-stores-2 c =
     c.make_step_room.new.steps.items c.push.new.self.items c.requires
     c.in_ok-make_step_room.ensures.items c.push.ensures.items
     (c.backoff.ensures (machine (run_in c.stores.inside)) c.stores.invariant.stands.stores.clients) in
-    record { stands = stands; spare = other_spared _ _ _ _ _ _ _ _ _ _ c.stores.invariant.stands stands c.in_ok-make_step_room.ensures.items
-    c.push.ensures.items refl c.stores.invariant.spare c.in_ok-make_step_room.ensures.room c.push.ensures.room }
+    record {
+      stands = stands;
+      spare = other_spared _ _ _ _ _ _ _ _ _ _ c.stores.invariant.stands stands c.in_ok-make_step_room.ensures.items
+          c.push.ensures.items refl c.stores.invariant.spare c.in_ok-make_step_room.ensures.room c.push.ensures.room;
+    }
 
 pub returns-clause-history : goal.returns-clause-history
 returns-clause-history c = λ client has.

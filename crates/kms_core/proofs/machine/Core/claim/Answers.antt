@@ -21,8 +21,8 @@ returns-in_default-clause-answer c = claim_found (run_in c.stores.inside) c.args
 pub claim_commit-requires : goal.claim_commit-requires
 claim_commit-requires c =
     subst (λ (w : Run). MayClaim w c.in-Some.commit) c.stores.view_is
-        (claim_legal (run_in c.stores.inside) c.args.self.now (stores_of c.stores.inside) c.in-Some.commit c.stores.invariant.stands
-        (c.stores.view_is ∙ c.deref_mut-stores.ensures.value ∙ c.self.view_is) c.if-stores.false c.in-Some.ensures)
+    (claim_legal (run_in c.stores.inside) c.args.self.now (stores_of c.stores.inside) c.in-Some.commit c.stores.invariant.stands
+    (c.stores.view_is ∙ c.deref_mut-stores.ensures.value ∙ c.self.view_is) c.if-stores.false c.in-Some.ensures)
 
 pub returns-clause-answer : goal.returns-clause-answer
 returns-clause-answer c = claim_found (run_in c.stores.inside) c.args.self.now (stores_of c.stores.inside)

@@ -69,5 +69,8 @@ invariant_of-stores c =
     c.stores.invariant.stands (c.stores.view_is ∙ c.deref_mut-stores.ensures.value ∙ c.self.view_is) c.requires
     (ap option_copied (sym c.in-Some.is) ∙ c.get.ensures) c.kept_ids-kept_ids.ensures c.as_slice.ensures.value)
     c.free.ensures in
-    record { stands = stands; spare = own_spared r st _ (Cleanup k) k c.push.new.self.items _ _ _ c.stores.invariant.stands stands
-    c.push.ensures.items owns.own c.stores.invariant.spare c.push.ensures.room }
+    record {
+      stands = stands;
+      spare = own_spared r st _ (Cleanup k) k c.push.new.self.items _ _ _ c.stores.invariant.stands stands
+          c.push.ensures.items owns.own c.stores.invariant.spare c.push.ensures.room;
+    }

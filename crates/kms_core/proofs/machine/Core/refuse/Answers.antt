@@ -21,7 +21,7 @@ decide_fresh-requires c = λ fresh.
 pub returns-clause-answer : goal.returns-clause-answer
 returns-clause-answer c =
     subst (λ (w : Run). IfOk c.decide_fresh.result
-        (IsDecided (look_up (world w)) c.args.used.now (decided.Done (reply.Refused c.args.why))))
+    (IsDecided (look_up (world w)) c.args.used.now (decided.Done (reply.Refused c.args.why))))
     (c.deref_mut-stores.ensures.value ∙ c.self.view_is) c.decide_fresh.ensures.answer
 
 pub returns-clause-history : goal.returns-clause-history

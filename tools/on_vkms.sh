@@ -1,0 +1,35 @@
+#!/bin/sh
+# Runs scripts by on_kernel in a virtual machine with the distribution's kernel, on two cards: vkms, which has one CRTC, and virtio-gpu,
+# which has two. Neither root nor KVM is needed.
+#
+# usage: tools/on_vkms.sh FOLDER [--crc] SCRIPT..
+#        tools/on_vkms.sh FOLDER --describe
+#
+# FOLDER keeps what the first run fetches and builds. For each card and script there is a line `== SCRIPT DRIVER`, what on_kernel
+# prints, and a line `== status N`. Where the machine does not come to its end, the status is 1.
+set -eu
+[ $# -ge 2 ] || { sed -n '2,9s/^# \{0,1\}//p' "$0" >&2; exit 2; }
+top=$(cd "$(dirname "$0")/.." && pwd)
+mkdir -p "$1"
+folder=$(cd "$1" && pwd)
+shift
+option=
+case $1 in
+    --crc) option=$1 && shift ;;
+    --describe) option=$1 && set -- /dev/null ;;
+esac
+. "$top/tools/vkms/machine.sh"
+
+# The program is built anew where its sources have changed.
+program=$folder/on_kernel/on_kernel_static
+if [ ! -x "$program" ] || [ -n "$(find "$top/tools/on_kernel" -name '*.[ch]' -newer "$program")" ]; then
+    "$top/checks/on_kernel.sh" "$folder/on_kernel" >&2
+    [ -x "$program" ] || need "no libdrm" libdrm-dev
+fi
+make_disk
+mkdir "$disk/scripts"
+cp "$@" "$disk/scripts"
+cp "$program" "$disk/bin/on_kernel"
+cp "$top/tools/vkms/run_scripts" "$disk/run"
+echo "$option" >"$disk/option"
+boot 512
