@@ -1,9 +1,11 @@
+use Rattle.std.proofs.Common.{◌≡◌, ℕ, List, Ok, subst}
+use Rattle.kms_model.specs.Legacy.LegacyLines.{legacy_input}
 use Rattle.kms_run.proofs.translated.translated_text.Goals as goal
 
 pub returns : goal.returns
 returns c = record {
   script = c.in_ok-script.script;
-  read = c.in_ok-script.ensures.value;
+  read = subst (λ (bytes : List ℕ). legacy_input bytes ≡ Ok c.in_ok-script.script) c.deref.ensures.value c.in_ok-script.ensures.value;
   translation = c.in_ok-translation.translation;
   is_translated = c.in_ok-translation.ensures;
   text = c.in_ok-print.ensures.text;
