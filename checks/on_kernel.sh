@@ -10,30 +10,22 @@ top=$(cd "$(dirname "$0")/.." && pwd)
 here=$top/checks/on_kernel
 . "$top/checks/compiling.sh"
 find_compiler on_kernel
-flags="-O2 -std=gnu11 -Wall -Wextra -Werror -I/usr/include/libdrm -I$top/tools/on_kernel"
-if ! printf '#include <xf86drm.h>\n#include <xf86drmMode.h>\n' | "$compiler" -I/usr/include/libdrm -E - >/dev/null 2>&1; then
-    echo "on_kernel: skipped, there are no headers of libdrm"
-    exit 0
-fi
+find_libdrm on_kernel
 folder=${1-$(mktemp -d)}
 [ $# -eq 1 ] || trap 'rm -rf "$folder"' EXIT
 mkdir -p "$folder"
-can_link() {
-    printf 'int main(void) { return 0; }\n' | "$compiler" "$@" -x c - -o "$folder/tried" -ldrm -lm -lpthread 2>/dev/null
-}
 # Flags are words.
 # shellcheck disable=SC2086
 build() {
     name=$1
     shift
-    if can_link "$@"; then
+    if can_link "$folder" "$@"; then
         "$compiler" $flags "$@" "$top"/tools/on_kernel/*.c -o "$folder/$name" -ldrm -lm -lpthread
         echo "$name: compiled"
     else
         "$compiler" $flags -fsyntax-only "$top"/tools/on_kernel/*.c
         echo "$name: not linked, there is no such library of libdrm; the source compiles"
     fi
-    rm -f "$folder/tried"
 }
 build on_kernel
 build on_kernel_static -static

@@ -16,7 +16,7 @@ shift
 option=
 case $1 in
     --crc) option=$1 && shift ;;
-    --describe) option=$1 && set -- /dev/null ;;
+    --describe) option=$1 && shift ;;
 esac
 . "$top/tools/vkms/machine.sh"
 
@@ -28,7 +28,7 @@ if [ ! -x "$program" ] || [ -n "$(find "$top/tools/on_kernel" -name '*.[ch]' -ne
 fi
 make_disk
 mkdir "$disk/scripts"
-cp "$@" "$disk/scripts"
+[ $# -eq 0 ] || cp "$@" "$disk/scripts"
 cp "$program" "$disk/bin/on_kernel"
 cp "$top/tools/vkms/run_scripts" "$disk/run"
 echo "$option" >"$disk/option"

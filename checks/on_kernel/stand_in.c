@@ -366,6 +366,8 @@ drmModeConnectorPtr drmModeGetConnector(int file, uint32_t id) {
     return file < 0 ? NULL : copy_of(&connector, sizeof connector);
 }
 
+drmModeConnectorPtr drmModeGetConnectorCurrent(int file, uint32_t id) { return drmModeGetConnector(file, id); }
+
 drmModeEncoderPtr drmModeGetEncoder(int file, uint32_t id) {
     drmModeEncoder encoder = {.encoder_id = id, .possible_crtcs = 3};
     return file < 0 ? NULL : copy_of(&encoder, sizeof encoder);
@@ -373,12 +375,14 @@ drmModeEncoderPtr drmModeGetEncoder(int file, uint32_t id) {
 
 drmModePropertyPtr drmModeGetProperty(int file, uint32_t id) {
     int at = id - FIRST_PROPERTY;
+    if (file < 0 || at < 0 || at >= (int)PROPERTIES)
+        return NULL;
     bool is_enum = properties[at].flags & DRM_MODE_PROP_ENUM;
     static struct drm_mode_property_enum enums[] = {{.value = 0}, {.value = 1}, {.value = 2}};
     drmModePropertyRes p = {.prop_id = id, .flags = properties[at].flags, .count_values = is_enum ? 3 : 2,
                             .values = (uint64_t *)properties[at].values, .count_enums = is_enum ? 3 : 0, .enums = enums};
     snprintf(p.name, sizeof p.name, "%s", properties[at].name);
-    return file < 0 ? NULL : copy_of(&p, sizeof p);
+    return copy_of(&p, sizeof p);
 }
 
 drmModeObjectPropertiesPtr drmModeObjectGetProperties(int file, uint32_t id, uint32_t type) {

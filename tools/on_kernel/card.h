@@ -8,6 +8,14 @@
 #include <xf86drm.h>
 #include <xf86drmMode.h>
 
+#ifndef DRM_IOCTL_MODE_CLOSEFB
+struct drm_mode_closefb {
+    uint32_t fb_id;
+    uint32_t pad;
+};
+#define DRM_IOCTL_MODE_CLOSEFB DRM_IOWR(0xD0, struct drm_mode_closefb)
+#endif
+
 enum {
     MOST_OBJECTS = 64,
     MOST_PROPERTIES = 64,

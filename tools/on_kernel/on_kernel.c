@@ -25,14 +25,6 @@
 
 #include "card.h"
 
-#ifndef DRM_IOCTL_MODE_CLOSEFB
-struct drm_mode_closefb {
-    uint32_t fb_id;
-    uint32_t pad;
-};
-#define DRM_IOCTL_MODE_CLOSEFB DRM_IOWR(0xD0, struct drm_mode_closefb)
-#endif
-
 enum {
     MOST_CLIENTS = 16,
     MOST_THINGS = 8192,
