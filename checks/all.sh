@@ -45,5 +45,6 @@ check documents python3 python3 "$top/tools/documents.py"
 check mode_bytes "" sh "$top/checks/mode_bytes.sh"
 check event_bytes "" sh "$top/checks/event_bytes.sh"
 check on_kernel "" "$top/checks/on_kernel.sh"
+check record "" "$top/checks/record.sh" "$program"
 echo "$passed passed, $failed failed"
 [ "$failed" -eq 0 ]

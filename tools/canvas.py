@@ -37,7 +37,8 @@ class Canvas:
 
     def text(self, x, lane, words, size=10, anchor="start", colour=INK, of=None):
         reach = 7 * len(words)
-        self.add(WORDS, x - reach, x + reach, "text", of=of, words=words, x=x, y=self.y(lane) + 4, font_size=size, text_anchor=anchor, fill=colour)
+        place = {"x": x, "y": self.y(lane) + 4, "font_size": size, "text_anchor": anchor}
+        self.add(WORDS, x - reach, x + reach, "text", of=of, words=words, **place, fill=colour)
 
     def bar(self, lane, begin, end, colour, title, height=14, opacity=1.0, dashes="", of=None):
         x, y = self.x(begin), self.y(lane)

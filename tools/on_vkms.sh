@@ -19,12 +19,13 @@ case $1 in
     --describe) option=$1 && shift ;;
 esac
 . "$top/tools/vkms/machine.sh"
+find_kernel
 
 # The program is built anew where its sources have changed.
 program=$folder/on_kernel/on_kernel_static
 if [ ! -x "$program" ] || [ -n "$(find "$top/tools/on_kernel" -name '*.[ch]' -newer "$program")" ]; then
     "$top/checks/on_kernel.sh" "$folder/on_kernel" >&2
-    [ -x "$program" ] || need "no libdrm" libdrm-dev
+    [ -x "$program" ] || install_first libdrm-dev
 fi
 make_disk
 mkdir "$disk/scripts"

@@ -206,11 +206,12 @@ def source_outside(request):
 
 
 def switches_crtc(request):
+    before = lambda plane: request.old[plane]["CRTC_ID"]
     return first_plane(
         request,
-        lambda plane, new: request.old[plane]["CRTC_ID"] not in (0, new["CRTC_ID"]),
+        lambda plane, new: before(plane) not in (0, new["CRTC_ID"]),
         ["CRTC_ID"],
-        lambda plane, new: f"the same after a request with {plane}.FB_ID=0 {plane}.CRTC_ID=0 ({plane} is on {request.old[plane]['CRTC_ID']})",
+        lambda plane, new: f"the same after a request with {plane}.FB_ID=0 {plane}.CRTC_ID=0 ({plane} is on {before(plane)})",
     )
 
 
@@ -309,8 +310,8 @@ def cloned_connectors(request):
 
 def mode_xor_connector(request):
     def found(crtc):
-        has_mode = request.mode(crtc, request.new)
-        accepted = f"a connector's CRTC_ID={crtc} too, or {crtc}.MODE_ID=0" if has_mode else f"{crtc}.MODE_ID of a mode too, or no connector"
+        with_mode = f"a connector's CRTC_ID={crtc} too, or {crtc}.MODE_ID=0"
+        accepted = with_mode if request.mode(crtc, request.new) else f"{crtc}.MODE_ID of a mode too, or no connector"
         return request.setting(crtc, "MODE_ID") + of_connectors(request, crtc), accepted
 
     is_broken = lambda crtc: bool(request.mode(crtc, request.new)) != bool(request.connectors_on(crtc, request.new))
@@ -320,7 +321,8 @@ def mode_xor_connector(request):
 def modeset_not_allowed(request):
     modesets = request.modesets()
     if modesets and not request.has("ALLOW_MODESET"):
-        at = [it for crtc, names in modesets.items() for it in request.setting(crtc, *names) + of_connectors(request, crtc) * ("CRTC_ID" in names)]
+        breaks = lambda crtc, names: request.setting(crtc, *names) + of_connectors(request, crtc) * ("CRTC_ID" in names)
+        at = [it for crtc, names in modesets.items() for it in breaks(crtc, names)]
         return at, f"flags with 0x400: {request.flags | 0x400:#x} ({listed(modesets)} would need a modeset)"
 
 

@@ -172,7 +172,8 @@ class Request:
             "MODE_ID": self.mode,
             "CRTC_ID": self.connectors_on,
         }
-        found = {crtc: [name for name, of in parts.items() if of(crtc, self.old) != of(crtc, self.new)] for crtc in self.device.objects("crtc")}
+        changed = lambda crtc: [name for name, of in parts.items() if of(crtc, self.old) != of(crtc, self.new)]
+        found = {crtc: changed(crtc) for crtc in self.device.objects("crtc")}
         return {crtc: names for crtc, names in found.items() if names}
 
     def setting(self, object, *names):

@@ -1,26 +1,32 @@
 # A virtual machine with the distribution's kernel and two cards, vkms and virtio-gpu, for scripts that source this. They set `top`, the
-# top of the repository, and `folder`, where all that is fetched and built is left.
+# top of the repository, and `folder`, where all that is fetched and built is left; `find_kernel` comes first, then `make_disk`, `boot`.
 
 say() { echo "${0##*/}: $*" >&2; }
 
-# need COMMAND PACKAGE ..: where a command is not there, names the packages that have what is missing, and ends.
+# Names packages that have what is missing, and ends.
+install_first() {
+    say "install first: $*"
+    exit 2
+}
+
+# need COMMAND PACKAGE ..: the package of each command that is not there is to be installed first.
 need() {
     missing=
     while [ $# -gt 0 ]; do
         command -v "$1" >/dev/null 2>&1 || missing="$missing $2"
         shift 2
     done
-    [ -z "$missing" ] && return
-    say "install these packages first:$missing"
-    exit 2
+    # Packages are words.
+    # shellcheck disable=SC2086
+    [ -z "$missing" ] || install_first $missing
 }
 
 # Finds the newest kernel whose headers are there: its `headers`, its `release`, and the folder `kernel` for what is kept of it.
 find_kernel() {
     need qemu-system-x86_64 qemu-system-x86 busybox busybox-static cpio cpio make make cc gcc xz xz-utils apt-get apt dpkg dpkg
     headers=$(find /usr/src -maxdepth 1 -name 'linux-headers-[0-9]*-amd64' | sort -V | tail -n 1)
-    [ -n "$headers" ] || need "no headers" linux-headers-amd64
-    if ldd "$(command -v busybox)" >/dev/null 2>&1; then need "no static busybox" busybox-static; fi
+    [ -n "$headers" ] || install_first linux-headers-amd64
+    if ldd "$(command -v busybox)" >/dev/null 2>&1; then install_first busybox-static; fi
     release=${headers##*/linux-headers-}
     kernel=$folder/$release
 }
@@ -56,7 +62,6 @@ build_modules() {
 
 # Makes `disk`, the folder of the RAM disk, with what each machine has. What the machine does is for the caller to put there, as `run`.
 make_disk() {
-    find_kernel
     fetch_kernel
     build_modules
     disk=$folder/disk

@@ -86,7 +86,7 @@ fn is_handed_all<R: Threads + Sync>(
     };
     let mut source = source(alloc, text, READ, &[])?;
     let mut sink = sink(alloc, step, &[next])?;
-    let status = one(rt, alloc, &mut source, &mut sink)?;
+    let status = answered(rt, alloc, "one", &mut source, &mut sink)?;
     Ok(status == Some(Status::Ok) && sink.written() == report.as_bytes())
 }
 

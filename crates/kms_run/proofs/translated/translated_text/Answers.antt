@@ -7,6 +7,6 @@ returns c = record {
   script = c.in_ok-script.script;
   read = subst (λ (bytes : List ℕ). legacy_input bytes ≡ Ok c.in_ok-script.script) c.deref.ensures.value c.in_ok-script.ensures.value;
   translation = c.in_ok-translation.translation;
-  is_translated = c.in_ok-translation.ensures;
+  is_translated = c.in_ok-translation.ensures.translated;
   text = c.in_ok-print.ensures.text;
 }
