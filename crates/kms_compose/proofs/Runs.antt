@@ -1,15 +1,16 @@
 -- A run of words put over a row, and opaque layers.
 use Rattle.std.proofs.Common.{◌≡◌, ◌<◌, ◌≤◌, ℕ, ◌+◌, ◌-◌, Bool, true, false, not, ◌||◌, ◌==◌, cond, List, length, take, drop, slice_index, Some, ◌⊎◌, inl, inr, ⊎_elim, arith, rules, refl, ap, ◌∙◌}
 use Rattle.std.proofs.lemmas.Bool.{and_parts, cases_lt, eqb-true, not-true}
+use Rattle.std.specs.List.{flat_map, range_with_len}
 use Rattle.std.proofs.lemmas.List.{places}
 use borrow.Rule.Slice.PartMut.{put_mid}
 use Rattle.kms_model.specs.declared.objects.Format.{Format}
 use Rattle.kms_model.specs.declared.objects.Format.TheVariants.{Xr24, Ar24, Rg16}
 use Rattle.kms_model.specs.declared.pictures.Colour.{Colour}
 use Rattle.kms_model.specs.declared.pictures.Layer.{Layer}
-use Rattle.kms_model.specs.Frames.FrameBytes.{blended, colour_of}
-use Rattle.kms_compose.specs.Parts.{channel_over, has_alpha, is_opaque, run_colour}
-use Rattle.kms_compose.proofs.Canvas.{before_run, behind_run, inside_run}
+use Rattle.kms_model.specs.Frames.FrameBytes.{blended, channels, colour_of}
+use Rattle.kms_compose.specs.Parts.{channel_over, colour_at, has_alpha, is_opaque, run_colour}
+use Rattle.kms_compose.proofs.Canvas.{before_run, behind_run, inside_run, range_moved}
 
 module _ (old run : List ℕ) (left n x : ℕ) (long : length run ≡ n) (fits : left + n ≤ length old) where
   before : x < left → slice_index (put_mid left n old run) x ≡ slice_index old x
@@ -22,15 +23,18 @@ module _ (old run : List ℕ) (left n x : ℕ) (long : length run ≡ n) (fits :
   behind h = search (rules, places)
 
 -- what a row has after a run of words was put over a part of it, of which n is the length
-pub run_over : (l : Layer) (channel : Colour → ℕ) (words old run : List ℕ) (left n : ℕ) → n ≡ length words → length run ≡ length words → left + length words ≤ length old →
-    ((k : ℕ) → k < length words → slice_index run k ≡ channel_over l channel (Some (colour_of l.fb.format (slice_index words k))) (slice_index old (left + k))) →
+pub run_over : (l : Layer) (channel : Colour → ℕ) (words old run : List ℕ) (left n : ℕ) → n ≡ length words → length run ≡ length words →
+    left + length words ≤ length old →
+    ((k : ℕ) → k < length words → slice_index run k ≡ channel_over l channel (Some (colour_of l.fb.format (slice_index words k)))
+    (slice_index old (left + k))) →
     (x : ℕ) → slice_index (put_mid left n old run) x ≡ channel_over l channel (run_colour l.fb.format words left x) (slice_index old x)
 run_over l channel words old run left n e long fits each x =
     ⊎_elim
     (λ h. let none = before_run left (length words) x h in rw none (before old run left n x (omega arith) (omega arith) h))
     (λ h. ⊎_elim
     (λ k. let some = inside_run left (length words) x h k in
-    rw some (inside old run left n x (omega arith) (omega arith) h (omega arith) ∙ each (x - left) (omega arith) ∙ ap (λ (i : ℕ). channel_over l channel (Some (colour_of l.fb.format (slice_index words (x - left)))) (slice_index old i)) (omega arith)))
+    rw some (inside old run left n x (omega arith) (omega arith) h (omega arith) ∙ each (x - left) (omega arith) ∙ ap
+    (λ (i : ℕ). channel_over l channel (Some (colour_of l.fb.format (slice_index words (x - left)))) (slice_index old i)) (omega arith)))
     (λ k. let none = behind_run left (length words) x k in rw none (behind old run left n x (omega arith) (omega arith) (omega arith)))
     (cases_lt x (left + length words)))
     (cases_lt x left)
@@ -68,3 +72,24 @@ blended_same mode a q q' f f' b b' e e' e'' = rw (e, e', e'') refl
 -- a place of a part of a row
 pub part_place : (old : List ℕ) (left n k : ℕ) → k < n → slice_index (take n (drop left old)) k ≡ slice_index old (left + k)
 part_place old left n k h = search (rules, places)
+
+-- one of the first places
+pub front_place : (old : List ℕ) (n k : ℕ) → k < n → slice_index (take n old) k ≡ slice_index old k
+front_place old n k h = search (rules, places)
+
+-- a colour at one of the first places
+front_colour : (red green blue : List ℕ) (n x : ℕ) → x < n → colour_at (take n red) (take n green) (take n blue) x ≡ colour_at red green blue x
+front_colour red green blue n x h = rw (front_place red n x h, front_place green n x h, front_place blue n x h) refl
+
+-- the bytes of the first pixels
+pub front_bytes : (f : ℕ → List ℕ) (red green blue : List ℕ) (left n : ℕ) → length (take n red) ≡ n
+    → ((x : ℕ) → x < n → channels (colour_at red green blue x) ≡ f (left + x))
+    → flat_map (λ x. channels (colour_at (take n red) (take n green) (take n blue) x)) (range_with_len 0 (length (take n red)))
+    ≡ flat_map f (range_with_len left n)
+front_bytes f red green blue left n long same =
+    let shown = λ (x : ℕ). channels (colour_at (take n red) (take n green) (take n blue) x) in
+    ap (λ (m : ℕ). flat_map shown (range_with_len 0 m)) long
+    ∙ range_moved shown f 0 left n (λ k i j here there below.
+    ap channels (front_colour red green blue n i (omega (arith, here, below)))
+    ∙ same i (omega (arith, here, below))
+    ∙ ap f (omega (arith, here, there)))

@@ -8,66 +8,62 @@ ghost use Rattle.kms_compose.specs.Parts.{IsPart, part_pixel, parts_over};
 
 use crate::areas::Area;
 use crate::parts::VisiblePart;
-use crate::rows::{interleave, make_run};
+use crate::rows::{Channels, Piece, RUN, interleave, make_run};
 use crate::tables::through_gamma;
 use kms_model::Gamma;
 
-/// How many pixels of a row are made at a time.
-const RUN: usize = 256;
-
-/// Draws so many pixels of a row, from `left` on. `words` and `channels` are room for a word and five channels of each.
+/// Draws pixels of a row, at most as many as are made at a time. `words` is room for a word of each, `pixels` for their channels.
 fn draw_run(
     parts: &[VisiblePart],
     gamma: &Option<Gamma>,
-    y: usize,
-    left: usize,
-    count: usize,
+    piece: Piece,
     words: &mut [u32],
-    channels: &mut [u8],
+    pixels: &mut Channels,
     out: &mut [u8],
 )
     requires parts { All IsPart parts.now }
-    requires narrow { left + count < 65536 }
-    requires words { count ≤ length words.old }
-    requires channels { 5 * count ≤ length channels.old }
-    requires out { length out.old ≡ 3 * count }
-    ensures { out.new ≡ flat_map (part_pixel gamma.now parts.now y) (range_with_len left count) }
+    requires narrow { piece.left + piece.count < 65536 }
+    requires few { piece.count ≤ 256 }
+    requires words { length words.old ≡ 256 }
+    requires out { length out.old ≡ 3 * piece.count }
+    ensures { out.new
+        ≡ flat_map (part_pixel gamma.now parts.now piece.y) (range_with_len piece.left piece.count) }
 {
-    let words = &mut words[..count];
-    let (alpha, rest) = channels.split_at_mut(count);
-    let (own, rest) = rest.split_at_mut(count);
-    let (red, rest) = rest.split_at_mut(count);
-    let (green, rest) = rest.split_at_mut(count);
-    let blue = &mut rest[..count];
-    make_run(parts, y, left, words, alpha, own, red, green, blue);
-    through_gamma(gamma, red, green, blue);
+    make_run(parts, piece, words, pixels);
+    through_gamma(gamma, piece.count, pixels);
+    let red = &pixels.red[..piece.count];
+    let green = &pixels.green[..piece.count];
+    let blue = &pixels.blue[..piece.count];
     interleave(red, green, blue, out);
 }
 
-/// Draws so many pixels of a row, from `left` on. `words` and `channels` are room for a word and five channels of as many
-/// pixels as are made at a time.
+/// Draws pixels of a row. `words` and `pixels` are room for those that are made at a time.
 fn draw_runs(
     parts: &[VisiblePart],
     gamma: &Option<Gamma>,
-    y: usize,
-    left: usize,
-    count: usize,
+    piece: Piece,
     words: &mut [u32],
-    channels: &mut [u8],
+    pixels: &mut Channels,
     out: &mut [u8],
 )
     requires parts { All IsPart parts.now }
-    requires narrow { left + count < 65536 }
+    requires narrow { piece.left + piece.count < 65536 }
     requires words { length words.old ≡ 256 }
-    requires channels { length channels.old ≡ 1280 }
-    requires out { length out.old ≡ 3 * count }
-    ensures { out.new ≡ flat_map (part_pixel gamma.now parts.now y) (range_with_len left count) }
+    requires out { length out.old ≡ 3 * piece.count }
+    ensures { out.new
+        ≡ flat_map (part_pixel gamma.now parts.now piece.y) (range_with_len piece.left piece.count) }
 {
+    let Piece { y, left, count } = piece;
     let mut done = 0;
     while done < count {
         let more = RUN.min(count - done);
-        let run = &mut out[3 * done..3 * (done + more)];
-        draw_run(parts, gamma, y, left + done, more, words, channels, run);
+        let run = Piece {
+            y,
+            left: left + done,
+            count: more,
+        };
+        let bytes = &mut out[3 * done..3 * (done + more)];
+        draw_run(parts, gamma, run, words, pixels, bytes);
         done += more;
     }
 }
@@ -86,8 +82,9 @@ pub fn draw_row(
     ensures { out.new ≡ flat_map (part_pixel gamma.now parts.now y) (range_with_len 0 count) }
 {
     let mut words = [0; RUN];
-    let mut channels = [0; 5 * RUN];
-    draw_runs(parts, gamma, y, 0, count, &mut words, &mut channels, out);
+    let mut pixels = Channels::new();
+    let row = Piece { y, left: 0, count };
+    draw_runs(parts, gamma, row, &mut words, &mut pixels, out);
 }
 
 /// Draws the pixels of a rectangle, in a frame of a mode of this width.
@@ -110,13 +107,17 @@ pub fn draw_area(
         (λ x y. through gamma.now (parts_over x y black parts.now)) before) }
 {
     let mut words = [0; RUN];
-    let mut channels = [0; 5 * RUN];
     let words = words.as_mut_slice();
-    let channels = channels.as_mut_slice();
+    let mut pixels = Channels::new();
     for y in area.top..area.top + area.height {
         let start = 3 * (y * width + area.left);
         let row = &mut bytes[start..start + 3 * area.width];
-        draw_runs(parts, gamma, y, area.left, area.width, words, channels, row);
+        let piece = Piece {
+            y,
+            left: area.left,
+            count: area.width,
+        };
+        draw_runs(parts, gamma, piece, words, &mut pixels, row);
     }
 }
 

@@ -9,6 +9,40 @@ use crate::parts::{Places, VisiblePart, row_on};
 use kms_blend::blend_row;
 use kms_model::{Format, Layer};
 
+/// How many pixels of a row are made at a time.
+pub const RUN: usize = 256;
+
+/// Pixels of a row side by side: so many, from `left` on.
+#[derive(Clone, Copy)]
+pub struct Piece {
+    pub y: usize,
+    pub left: usize,
+    pub count: usize,
+}
+
+/// The channels of pixels that are made at a time, and room for those of a part: alpha, and one channel after the other.
+#[derive(Drop)]
+pub struct Channels {
+    pub red: [u8; RUN],
+    pub green: [u8; RUN],
+    pub blue: [u8; RUN],
+    alpha: [u8; RUN],
+    own: [u8; RUN],
+}
+
+impl Channels {
+    /// Those of black pixels.
+    pub fn new() -> Channels {
+        Channels {
+            red: [0; RUN],
+            green: [0; RUN],
+            blue: [0; RUN],
+            alpha: [0; RUN],
+            own: [0; RUN],
+        }
+    }
+}
+
 /// Whether a layer hides what lies below it at each of its pixels, and shows its own channels as they are.
 fn is_opaque(layer: &Layer) -> bool
     ensures { result ≡ is_opaque layer.now }
@@ -38,10 +72,10 @@ fn put_channel<C: Channel>(
     requires layer_alpha { layer.now.alpha ≤ 65535 }
     requires blend { layer.now.blend ≤ 2 }
     requires within { left + length words.now ≤ length lower.old }
-    requires alpha { is_opaque layer.now ≡ false → length alpha.now ≡ length words.now }
-    requires alphas { is_opaque layer.now ≡ false → EachIndex alpha.now (λ k.
-        slice_index alpha.now k ≡ (colour_of layer.now.fb.format (slice_index words.now k)).alpha) }
-    requires own { is_opaque layer.now ≡ false → length own.old ≡ length words.now }
+    requires alpha { length words.now ≤ length alpha.now }
+    requires alphas { is_opaque layer.now ≡ false → (k : ℕ) → k < length words.now
+        → slice_index alpha.now k ≡ (colour_of layer.now.fb.format (slice_index words.now k)).alpha }
+    requires own { length words.now ≤ length own.old }
     ensures { EachIndex lower.new (λ x. slice_index lower.new x
         ≡ channel_over layer.now C.channel (run_colour layer.now.fb.format words.now left x)
         (slice_index lower.old x)) }
@@ -51,6 +85,8 @@ fn put_channel<C: Channel>(
     if is_opaque(layer) {
         unpack::<C>(layer.fb.format, words, shown);
     } else {
+        let alpha = &alpha[..words.len()];
+        let own = &mut own[..words.len()];
         unpack::<C>(layer.fb.format, words, own);
         blend_row(layer.blend, layer.alpha, alpha, own, shown);
     }
@@ -58,12 +94,12 @@ fn put_channel<C: Channel>(
 
 /// Reads the alpha of words, unless the layer is opaque.
 fn read_alpha(layer: &Layer, words: &[u32], alpha: &mut [u8])
-    requires { length words.now ≡ length alpha.old }
-    ensures { is_opaque layer.now ≡ false → EachIndex alpha.new (λ k.
-        slice_index alpha.new k ≡ (colour_of layer.now.fb.format (slice_index words.now k)).alpha) }
+    requires { length words.now ≤ length alpha.old }
+    ensures { is_opaque layer.now ≡ false → (k : ℕ) → k < length words.now
+        → slice_index alpha.new k ≡ (colour_of layer.now.fb.format (slice_index words.now k)).alpha }
 {
     if !is_opaque(layer) {
-        unpack::<Alpha>(layer.fb.format, words, alpha);
+        unpack::<Alpha>(layer.fb.format, words, &mut alpha[..words.len()]);
     }
 }
 
@@ -101,63 +137,43 @@ fn words_of<'a>(part: &VisiblePart, row: &'a [u32], first: usize, room: &'a mut 
     }
 }
 
-/// Puts words of a layer over some pixels of a row, given by their channels, from `left` of these on. `alpha` and `own` are
-/// room for as many numbers.
-fn put_words(
-    layer: &Layer,
-    words: &[u32],
-    left: usize,
-    alpha: &mut [u8],
-    own: &mut [u8],
-    red: &mut [u8],
-    green: &mut [u8],
-    blue: &mut [u8],
-)
+/// Puts words of a layer over some pixels of a row, from `left` of these on.
+fn put_words(layer: &Layer, words: &[u32], left: usize, pixels: &mut Channels)
     requires layer_alpha { layer.now.alpha ≤ 65535 }
     requires blend { layer.now.blend ≤ 2 }
-    requires within { left + length words.now ≤ length red.old }
-    requires alpha { length alpha.old ≡ length red.old }
-    requires own { length own.old ≡ length red.old }
-    requires green { length green.old ≡ length red.old }
-    requires blue { length blue.old ≡ length red.old }
-    ensures { (x : ℕ) → x < length red.old → colour_at red.new green.new blue.new x
-        ≡ mixed layer.now (colour_at red.old green.old blue.old x)
+    requires within { left + length words.now ≤ 256 }
+    ensures { (x : ℕ) → x < 256
+        → colour_at pixels.new.red pixels.new.green pixels.new.blue x
+        ≡ mixed layer.now (colour_at pixels.old.red pixels.old.green pixels.old.blue x)
         (run_colour layer.now.fb.format words.now left x) }
 {
-    let alpha = &mut alpha[..words.len()];
-    let own = &mut own[..words.len()];
+    let Channels {
+        red,
+        green,
+        blue,
+        alpha,
+        own,
+    } = pixels;
     read_alpha(layer, words, alpha);
     put_channel::<Red>(layer, words, left, alpha, own, red);
     put_channel::<Green>(layer, words, left, alpha, own, green);
     put_channel::<Blue>(layer, words, left, alpha, own, blue);
 }
 
-/// Puts a part on some pixels of a row, given by their channels, of which `start` is the first. `shown`, `alpha` and `own` are
-/// room for as many numbers.
-fn put_part(
-    part: &VisiblePart,
-    y: usize,
-    start: usize,
-    shown: &mut [u32],
-    alpha: &mut [u8],
-    own: &mut [u8],
-    red: &mut [u8],
-    green: &mut [u8],
-    blue: &mut [u8],
-)
+/// Puts a part on some pixels of a row. `shown` is room for a word of each.
+fn put_part(part: &VisiblePart, piece: Piece, shown: &mut [u32], pixels: &mut Channels)
     requires part { IsPart part.now }
-    requires narrow { start + length red.old < 65536 }
-    requires shown { length shown.old ≡ length red.old }
-    requires alpha { length alpha.old ≡ length red.old }
-    requires own { length own.old ≡ length red.old }
-    requires green { length green.old ≡ length red.old }
-    requires blue { length blue.old ≡ length red.old }
-    ensures { (x : ℕ) → x < length red.old → colour_at red.new green.new blue.new x
-        ≡ mixed part.now.layer (colour_at red.old green.old blue.old x)
-        (part_colour part.now (start + x) y) }
+    requires narrow { piece.left + piece.count < 65536 }
+    requires few { piece.count ≤ 256 }
+    requires shown { length shown.old ≡ 256 }
+    ensures { (x : ℕ) → x < piece.count
+        → colour_at pixels.new.red pixels.new.green pixels.new.blue x
+        ≡ mixed part.now.layer (colour_at pixels.old.red pixels.old.green pixels.old.blue x)
+        (part_colour part.now (piece.left + x) piece.y) }
 {
-    let from = part.left.max(start);
-    let end = (part.left + part.width).min(start + red.len());
+    let Piece { y, left, count } = piece;
+    let from = part.left.max(left);
+    let end = (part.left + part.width).min(left + count);
     if from >= end {
         return;
     }
@@ -166,46 +182,24 @@ fn put_part(
     };
     let words = &mut shown[..end - from];
     let words = words_of(part, row, from - part.left, words);
-    put_words(
-        &part.layer,
-        words,
-        from - start,
-        alpha,
-        own,
-        red,
-        green,
-        blue,
-    );
+    put_words(&part.layer, words, from - left, pixels);
 }
 
-/// Makes some pixels of a row, of which `start` is the first, of the parts over black, by their channels. `shown`, `alpha` and
-/// `own` are room for as many numbers.
-pub fn make_run(
-    parts: &[VisiblePart],
-    y: usize,
-    start: usize,
-    shown: &mut [u32],
-    alpha: &mut [u8],
-    own: &mut [u8],
-    red: &mut [u8],
-    green: &mut [u8],
-    blue: &mut [u8],
-)
+/// Makes some pixels of a row, of the parts over black. `shown` is room for a word of each.
+pub fn make_run(parts: &[VisiblePart], piece: Piece, shown: &mut [u32], pixels: &mut Channels)
     requires parts { All IsPart parts.now }
-    requires narrow { start + length red.old < 65536 }
-    requires shown { length shown.old ≡ length red.old }
-    requires alpha { length alpha.old ≡ length red.old }
-    requires own { length own.old ≡ length red.old }
-    requires green { length green.old ≡ length red.old }
-    requires blue { length blue.old ≡ length red.old }
-    ensures { (x : ℕ) → x < length red.old
-        → colour_at red.new green.new blue.new x ≡ parts_over (start + x) y black parts.now }
+    requires narrow { piece.left + piece.count < 65536 }
+    requires few { piece.count ≤ 256 }
+    requires shown { length shown.old ≡ 256 }
+    ensures { (x : ℕ) → x < piece.count
+        → colour_at pixels.new.red pixels.new.green pixels.new.blue x
+        ≡ parts_over (piece.left + x) piece.y black parts.now }
 {
-    red.fill(0);
-    green.fill(0);
-    blue.fill(0);
+    pixels.red.fill(0);
+    pixels.green.fill(0);
+    pixels.blue.fill(0);
     for part in parts {
-        put_part(part, y, start, shown, alpha, own, red, green, blue);
+        put_part(part, piece, shown, pixels);
     }
 }
 

@@ -1,8 +1,9 @@
 //! Gamma tables. (Kernel: "Color Management Properties", `GAMMA_LUT`.)
-ghost use Rattle.std.specs.Prelude.{◌≡◌, ◌<◌, ℕ, length, slice_index, EachIndex};
+ghost use Rattle.std.specs.Prelude.{◌≡◌, ◌<◌, ◌≤◌, ℕ, length, slice_index, EachIndex};
 ghost use Rattle.kms_model.specs.Frames.FrameBytes.{through};
 ghost use Rattle.kms_compose.specs.Parts.{colour_at};
 
+use crate::rows::Channels;
 use kms_model::Gamma;
 
 /// Takes each value of a channel through a list of what each value becomes.
@@ -16,16 +17,16 @@ fn take_through(list: &[u8; 256], channel: &mut [u8])
     }
 }
 
-/// Takes a row, given by its channels, through a gamma table, if there is one.
-pub fn through_gamma(gamma: &Option<Gamma>, red: &mut [u8], green: &mut [u8], blue: &mut [u8])
-    requires green { length green.old ≡ length red.old }
-    requires blue { length blue.old ≡ length red.old }
-    ensures { (x : ℕ) → x < length red.old → colour_at red.new green.new blue.new x
-        ≡ through gamma.now (colour_at red.old green.old blue.old x) }
+/// Takes so many pixels through a gamma table, if there is one.
+pub fn through_gamma(gamma: &Option<Gamma>, count: usize, pixels: &mut Channels)
+    requires few { count ≤ 256 }
+    ensures { (x : ℕ) → x < count
+        → colour_at pixels.new.red pixels.new.green pixels.new.blue x
+        ≡ through gamma.now (colour_at pixels.old.red pixels.old.green pixels.old.blue x) }
 {
     if let Some(gamma) = gamma {
-        take_through(&gamma.red, red);
-        take_through(&gamma.green, green);
-        take_through(&gamma.blue, blue);
+        take_through(&gamma.red, &mut pixels.red[..count]);
+        take_through(&gamma.green, &mut pixels.green[..count]);
+        take_through(&gamma.blue, &mut pixels.blue[..count]);
     }
 }

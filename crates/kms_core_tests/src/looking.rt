@@ -1,10 +1,9 @@
 //! Two machines that are told apart by what a label names, and a request whose look-ups grew old.
 use crate::following::{follow_all, holds};
 use kms_core::{Core, Decided};
-use kms_course::{looks_same, start_machine, tells_same};
+use kms_course::{call_step, context_with, decide, looks_same, start_machine, tells_same};
 use kms_model::{Command, Look, Lookups, NoMemory, Step};
 use kms_samples::{CONN, CRTC, PLANE, script};
-use kms_single_calls::{call_step, context_with, decide};
 use std::alloc::Global;
 use std::test::Fail;
 

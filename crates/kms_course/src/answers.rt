@@ -1,9 +1,9 @@
 //! Lines of a course on what single calls answer that take locks and decide requests. A call whose answer is a step has done it.
 use crate::calls::call_decision;
 use crate::places::split_number;
+use crate::single::{call_lock, call_relock};
 use kms_core::{Core, Decided, Locked};
 use kms_model::{NoMemory, ObjId};
-use kms_single_calls::{call_lock, call_relock};
 use std::alloc::Global;
 
 /// Whether an answer is this word and this number.

@@ -1,8 +1,8 @@
 //! Histories that are made again, each step by its single call, as clients and workers make them.
 use crate::comparing::{looks_same, tells_same};
+use crate::single::{call_lock, call_relock, call_step, context_with, decide};
 use kms_core::{Core, Decided, Locked};
 use kms_model::{Kind, NoMemory, ObjId, Step};
-use kms_single_calls::{call_lock, call_relock, call_step, context_with, decide};
 use std::alloc::Global;
 
 /// The object with an index that is no index of another kind's object.

@@ -13,6 +13,7 @@ mod places;
 mod playing;
 mod refusing;
 mod replays;
+mod single;
 mod starting;
 mod steps;
 
@@ -22,5 +23,6 @@ pub use courses::{follow, step_of};
 pub use moves::{do_step, goes, next_of, place_of};
 pub use playing::{Played, play};
 pub use replays::{do_again, start_anew};
+pub use single::{RequestContext, call_lock, call_relock, call_step, context_with, decide};
 pub use starting::{NotStarted, start_machine};
 pub use steps::{Object, crtc, flush, lock, plane, vblank, write};

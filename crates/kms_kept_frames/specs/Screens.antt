@@ -67,8 +67,8 @@ abbrev pub IsDrawnOf : Picture → Drawn → Type 0
 IsDrawnOf p d = d.picture ≡ p
 
 -- a picture's frame, over images of framebuffers, and its digest
-abbrev pub IsRenewed : List FbImage → Picture → Drawn → List ℕ → Type 0
-IsRenewed images p d digest = IsDrawnOver images d × IsDrawnOf p d × (digest ≡ sha256 d.frame)
+abbrev pub IsRenewed : List FbImage → Picture → KeptFrame → Type 0
+IsRenewed images p k = IsKeptFrameOver images k × IsDrawnOf p k.drawn
 
 -- a picture is one of the two
 abbrev pub Has : Screen → Picture → Type 0

@@ -3,11 +3,12 @@ ghost use Rattle.std.specs.Prelude.{◌≡◌, IfOk};
 ghost use Rattle.sha2.specs.Sha256.{sha256};
 ghost use Rattle.kms_model.specs.Frames.FrameBytes.{frame_of};
 ghost use Rattle.kms_compose.specs.Images.{CanShow, word_under};
-ghost use Rattle.kms_kept_frames.specs.Screens.{AreFronts, IsDrawnOver, IsRenewed};
+ghost use Rattle.kms_kept_frames.specs.Screens.{AreFronts, AreKeptFramesOver, IsRenewed};
 
 use crate::digests::{both_digests, digest_of_frame};
 use crate::fronts::Fronts;
-use crate::kept::{Drawn, renew, renew_both};
+use crate::kept::{renew, renew_both};
+use crate::screen::Screen;
 use kms_compose::{Frame, Images, frame, frame_rows};
 use kms_model::{NoMemory, Picture};
 use std::alloc::Global;
@@ -41,23 +42,22 @@ pub trait Hands {
         ensures other { result.1 ≡ sha256 other.now }
         ensures others { AreFronts others.new other.now };
 
-    /// Changes each of two frames to that of another picture, and gives their digests. The only error is want of memory.
+    /// Changes the first frame of a screen to that of a picture, and the second to that of the next one, with their digests. The
+    /// only error is want of memory.
     fn renew(
         &self,
         alloc: Global,
-        one: &mut Drawn,
+        screen: Screen,
         picture: &Picture,
-        other: &mut Drawn,
         next: &Picture,
         images: &Images,
-    ) -> (Result<[u8; 32], NoMemory>, Result<[u8; 32], NoMemory>)
+    ) -> Result<Screen, NoMemory>
         requires hands { can_work self.now }
-        requires one { IsDrawnOver images.now one.old }
+        requires screen { AreKeptFramesOver images.now screen }
         requires picture { CanShow images.now picture.now }
-        requires other { IsDrawnOver images.now other.old }
         requires next { CanShow images.now next.now }
-        ensures one { IfOk result.0 (IsRenewed images.now picture.now one.new) }
-        ensures other { IfOk result.1 (IsRenewed images.now next.now other.new) };
+        ensures { IfOk result (λ s. IsRenewed images.now picture.now s.first
+            × IsRenewed images.now next.now s.second) };
 }
 
 /// One thread, which does one thing after the other.
@@ -87,14 +87,18 @@ impl Hands for OneThread {
     fn renew(
         &self,
         alloc: Global,
-        one: &mut Drawn,
+        screen: Screen,
         picture: &Picture,
-        other: &mut Drawn,
         next: &Picture,
         images: &Images,
-    ) -> (Result<[u8; 32], NoMemory>, Result<[u8; 32], NoMemory>) {
-        let digest = renew(alloc, one, picture, images);
-        (digest, renew(alloc, other, next, images))
+    ) -> Result<Screen, NoMemory> {
+        let Screen {
+            mut first,
+            mut second,
+        } = screen;
+        renew(alloc, &mut first, picture, images)?;
+        renew(alloc, &mut second, next, images)?;
+        Ok(Screen { first, second })
     }
 }
 
@@ -128,12 +132,11 @@ impl<'a, R: Threads + Sync> Hands for SeveralThreads<'a, R> {
     fn renew(
         &self,
         alloc: Global,
-        one: &mut Drawn,
+        screen: Screen,
         picture: &Picture,
-        other: &mut Drawn,
         next: &Picture,
         images: &Images,
-    ) -> (Result<[u8; 32], NoMemory>, Result<[u8; 32], NoMemory>) {
-        renew_both(self.rt, alloc, one, picture, other, next, images)
+    ) -> Result<Screen, NoMemory> {
+        renew_both(self.rt, alloc, screen, picture, next, images)
     }
 }

@@ -1,11 +1,13 @@
 //! Frames that are kept.
 ghost use Rattle.std.specs.Prelude.{◌≡◌, ◌⊎◌, ◌↔◌, IfOk, IsTrue, OnOk};
+ghost use Rattle.sha2.specs.Sha256.{sha256};
 ghost use Rattle.kms_compose.specs.Images.{CanShow};
-ghost use Rattle.kms_kept_frames.specs.Screens.{AreOfOneSizeAndTable, IsDrawnOver, IsDrawnOf, IsRenewed};
+ghost use Rattle.kms_kept_frames.specs.Screens.{AreKeptFramesOver, AreOfOneSizeAndTable, IsDrawnOver, IsDrawnOf, IsRenewed};
 
 use crate::digests::{WORTH_A_THREAD, digest_of_frame};
 use crate::fronts::Fronts;
-use crate::hands::Hands;
+use crate::hands::{Hands, OneThread};
+use crate::screen::Screen;
 use kms_compose::{Frame, Images, is_same_layer, is_same_size, is_same_table, recompose_kept};
 use kms_model::{Layer, Mode, NoMemory, Picture, Seq, Shown};
 use std::alloc::Global;
@@ -105,7 +107,7 @@ fn change(
 }
 
 /// Changes a frame to that of another picture, and gives its digest.
-pub fn renew(
+fn renewed(
     alloc: Global,
     drawn: &mut Drawn,
     picture: &Picture,
@@ -113,42 +115,64 @@ pub fn renew(
 ) -> Result<[u8; 32], NoMemory>
     requires drawn { IsDrawnOver images.now drawn.old }
     requires can { CanShow images.now picture.now }
-    ensures { IfOk result (IsRenewed images.now picture.now drawn.new) }
+    ensures { IfOk result (λ digest. IsDrawnOver images.now drawn.new
+        × IsDrawnOf picture.now drawn.new × (digest ≡ sha256 drawn.new.frame)) }
 {
     change(alloc, drawn, picture, images)?;
     Ok(digest_of_frame(drawn.frame.as_slice(), &mut drawn.fronts))
 }
 
-/// Changes two frames to those of other pictures, and gives their digests: side by side where both are large.
+/// Changes a frame to that of another picture, with its digest.
+pub fn renew(
+    alloc: Global,
+    kept: &mut KeptFrame,
+    picture: &Picture,
+    images: &Images,
+) -> Result<(), NoMemory>
+    requires drawn { IsDrawnOver images.now kept.old.drawn }
+    requires can { CanShow images.now picture.now }
+    ensures { OnOk result (IsRenewed images.now picture.now kept.new) }
+{
+    kept.digest = renewed(alloc, &mut kept.drawn, picture, images)?;
+    Ok(())
+}
+
+/// Changes the first frame of a screen to that of a picture, and the second to that of the next one, with their digests: side by
+/// side where both are large.
 pub fn renew_both<R: Threads>(
     rt: &R,
     alloc: Global,
-    one: &mut Drawn,
+    screen: Screen,
     picture: &Picture,
-    other: &mut Drawn,
     next: &Picture,
     images: &Images,
-) -> (Result<[u8; 32], NoMemory>, Result<[u8; 32], NoMemory>)
-    requires one { IsDrawnOver images.now one.old }
+) -> Result<Screen, NoMemory>
+    requires screen { AreKeptFramesOver images.now screen }
     requires picture { CanShow images.now picture.now }
-    requires other { IsDrawnOver images.now other.old }
     requires next { CanShow images.now next.now }
-    ensures one { IfOk result.0 (IsRenewed images.now picture.now one.new) }
-    ensures other { IfOk result.1 (IsRenewed images.now next.now other.new) }
+    ensures { IfOk result (λ s. IsRenewed images.now picture.now s.first
+        × IsRenewed images.now next.now s.second) }
 {
+    let (one, other) = (&screen.first.drawn, &screen.second.drawn);
     if one.frame.len().min(other.frame.len()) < WORTH_A_THREAD {
-        let digest = renew(alloc, one, picture, images);
-        return (digest, renew(alloc, other, next, images));
+        return OneThread.renew(alloc, screen, picture, next, images);
     }
-    let mut first = || -> Result<[u8; 32], NoMemory>
-        requires { IsDrawnOver images.now one.now × CanShow images.now picture.now }
-        ensures { IfOk result (IsRenewed images.entry.now picture.entry.now one.exit.now) }
-    { renew(alloc, one, picture, images) };
-    let mut second = || -> Result<[u8; 32], NoMemory>
-        requires { IsDrawnOver images.now other.now × CanShow images.now next.now }
-        ensures { IfOk result (IsRenewed images.entry.now next.entry.now other.exit.now) }
-    { renew(alloc, other, next, images) };
-    join_mut(rt, &mut first, &mut second)
+    let Screen {
+        mut first,
+        mut second,
+    } = screen;
+    let mut change_first = || -> Result<(), NoMemory>
+        requires { IsDrawnOver images.now first.drawn × CanShow images.now picture.now }
+        ensures { OnOk result (IsRenewed images.entry.now picture.entry.now first.exit) }
+    { renew(alloc, &mut first, picture, images) };
+    let mut change_second = || -> Result<(), NoMemory>
+        requires { IsDrawnOver images.now second.drawn × CanShow images.now next.now }
+        ensures { OnOk result (IsRenewed images.entry.now next.entry.now second.exit) }
+    { renew(alloc, &mut second, next, images) };
+    let (of_first, of_second) = join_mut(rt, &mut change_first, &mut change_second);
+    of_first?;
+    of_second?;
+    Ok(Screen { first, second })
 }
 
 /// The frame of a picture, made anew.

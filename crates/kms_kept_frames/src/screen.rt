@@ -85,37 +85,6 @@ fn both_hashed<H: Hands>(hands: &H, mut one: Drawn, mut other: Drawn) -> Screen
     }
 }
 
-/// Two frames, each changed to that of another picture, with their digests.
-fn both_renewed<H: Hands>(
-    hands: &H,
-    alloc: Global,
-    mut one: Drawn,
-    picture: &Picture,
-    mut other: Drawn,
-    next: &Picture,
-    images: &Images,
-) -> Result<Screen, NoMemory>
-    requires hands { H.can_work hands.now }
-    requires one { IsDrawnOver images.now one }
-    requires picture { CanShow images.now picture.now }
-    requires other { IsDrawnOver images.now other }
-    requires next { CanShow images.now next.now }
-    ensures stands { IfOk result (AreKeptFramesOver images.now) }
-    ensures both { IfOk result (λ s. Has s picture.now × Has s next.now) }
-{
-    let (digest, digest_of_other) = hands.renew(alloc, &mut one, picture, &mut other, next, images);
-    Ok(Screen {
-        first: KeptFrame {
-            drawn: one,
-            digest: digest?,
-        },
-        second: KeptFrame {
-            drawn: other,
-            digest: digest_of_other?,
-        },
-    })
-}
-
 impl Screen {
     /// The screen of a CRTC that showed nothing yet.
     pub fn dark(alloc: Global) -> Screen
@@ -201,15 +170,14 @@ impl Screen {
         ensures stands { IfOk result (AreKeptFramesOver images.now) }
         ensures both { IfOk result (λ s. Has s picture.now × Has s next.now) }
     {
-        let Screen { first, second } = self;
-        let (first, second) = (first.drawn, second.drawn);
-        if is_same_size_and_table(&first.picture, picture)
-            && is_same_size_and_table(&second.picture, next)
+        if is_same_size_and_table(&self.first.drawn.picture, picture)
+            && is_same_size_and_table(&self.second.drawn.picture, next)
         {
-            return both_renewed(hands, alloc, first, picture, second, next, images);
+            return hands.renew(alloc, self, picture, next, images);
         }
-        let one = redrawn(hands, alloc, first, picture, images)?;
-        let hand = at_hand(alloc, second, &one, next)?;
+        let Screen { first, second } = self;
+        let one = redrawn(hands, alloc, first.drawn, picture, images)?;
+        let hand = at_hand(alloc, second.drawn, &one, next)?;
         let other = redrawn(hands, alloc, hand, next, images)?;
         Ok(both_hashed(hands, one, other))
     }

@@ -1,7 +1,7 @@
 use Rattle.std.proofs.Common.{◌≡◌, ◌≤◌, ◌<◌, ℕ, ◌+◌, ◌-◌, true, false, List, length, slice_index, ◌∙◌, sym, ap, arith, rules, Fits, w8}
 use borrow.Rule.Slice.PartMut.{put_mid}
 use Rattle.kms_compose.specs.Parts.{is_opaque}
-use Rattle.kms_compose.proofs.Runs.{blended_same, inside, opaque_over, part_place, run_over}
+use Rattle.kms_compose.proofs.Runs.{blended_same, front_place, inside, opaque_over, part_place, run_over}
 use Rattle.kms_compose.proofs.rows.put_channel.Goals as goal
 
 -- a number of a row of bytes is at most 255, also where it is given by another
@@ -25,8 +25,13 @@ returns-then-is_opaque g c = λ x h.
 pub returns-else-is_opaque : goal.returns-else-is_opaque
 returns-else-is_opaque g c = λ x h.
     let shown_through : is_opaque c.args.layer.now ≡ false = search rules in
-    run_over c.args.layer.now g.C.Channel.channel c.args.words.now c.args.lower.now c.blend_row.new.b c.args.left _ (omega arith) (omega arith) c.requires.within
+    let size : length c.unpack-else-is_opaque.new.out ≡ length c.args.words.now = search rules in
+    run_over c.args.layer.now g.C.Channel.channel c.args.words.now c.args.lower.now c.blend_row.new.b c.args.left _ (omega arith) (omega arith)
+    c.requires.within
     (λ k below.
     c.blend_row.ensures.places k (omega arith)
-    ∙ blended_same c.args.layer.now.blend c.args.layer.now.alpha _ _ _ _ _ _ (c.requires.alphas shown_through k (omega (arith, c.requires.alpha shown_through))) (c.unpack-else-is_opaque.ensures k (omega arith)) (part_place c.args.lower.now c.args.left (c.args.left + length c.args.words.now - c.args.left) k (omega arith)))
+    ∙ blended_same c.args.layer.now.blend c.args.layer.now.alpha _ _ _ _ _ _
+    (front_place c.args.alpha.now _ k below ∙ c.requires.alphas shown_through k below)
+    (c.unpack-else-is_opaque.ensures k (omega (arith, below, size)))
+    (part_place c.args.lower.now c.args.left (c.args.left + length c.args.words.now - c.args.left) k (omega arith)))
     x
