@@ -50,7 +50,6 @@ use Rattle.kms_device.proofs.Deciding as at_turn
 use Rattle.kms_device.proofs.Deciding.{may_refuse, request-found, the_taker}
 use Rattle.kms_device.proofs.DecidedTries.{answered_by, in_vain, looked_again, recorded, swap_recorded}
 use Rattle.kms_device.proofs.Moved.{may_refuse_by, may_swap_by}
-use Rattle.kms_device.proofs.Stepping.{found-is}
 use Rattle.kms_device.proofs.TakingTries.{TakesFor, comes_found, waits_found}
 use Rattle.kms_device.proofs.TurnsTried.{waits_for}
 

@@ -1,6 +1,6 @@
 -- The first step of a commit's tail that is legal.
-use Rattle.std.proofs.Common.{◌≡◌, ℕ, ◌+◌, ◌<◌, ◌≤◌, List, [], ◌∷◌, ◌++◌, map, cond, Option, Some, None, Bool, true, false, refl, sym, ap, ◌∙◌, subst, arith, All}
-use Rattle.std.specs.Prelude.{◌&&◌, find, nat_le, not}
+use Rattle.std.proofs.Common.{◌≡◌, ℕ, ◌<◌, List, [], ◌∷◌, ◌++◌, map, cond, Option, Some, Bool, true, false, refl, sym, ap, ◌∙◌, arith, inl, All}
+use Rattle.std.specs.Prelude.{find, nat_le, not}
 use Rattle.std.specs.List.{range_with_len}
 use Rattle.std.specs.Option.{option_map, option_or, option_to_list}
 use Rattle.std.proofs.lemmas.Bool.{and_from, and_parts, le-leb, ltb-true}
@@ -22,7 +22,8 @@ use Rattle.kms_model.proofs.TouchedLemmas.{few_objects, few_of}
 use Rattle.kms_model.proofs.Facts.{cond_mapped}
 use Rattle.kms_core.specs.Run.{Run, machine}
 use Rattle.kms_core.specs.Work.{write_step}
-use Rattle.kms_device.specs.Steps.{is_legal, may_write, step_if, tail_of}
+use Rattle.kms_device.specs.Steps.{is_legal, may_write, tail_of}
+use Rattle.kms_device.proofs.Turning.{ArePlainOf, IsOf, IsPlain}
 
 -- By kinds
 
@@ -78,6 +79,15 @@ of_tail P t k writes flushes done cleaned =
     All-append P _ _ (each P (step.Write k Crtc) (range_with_len 0 (count_of t Crtc)) (writes Crtc))
     (All-append P _ _ (each P (step.Write k Plane) (range_with_len 0 (count_of t Plane)) (writes Plane))
     (All-append P _ _ (each P (step.Flush k Crtc) (range_with_len 0 (count_of t Crtc)) flushes) ends))
+
+-- the step that a worker does is nobody's, and plain
+pub plain_tail : (client : ℕ) (r : Run) (k : ℕ) → ArePlainOf client (option_to_list (find (is_legal r) (tail_of r.script.topology k)))
+plain_tail client r k =
+    let t = r.script.topology in
+    record {
+      plain = found_of IsPlain (is_legal r) (tail_of t k) (of_tail IsPlain t k (λ kind i. refl) (λ i. refl) refl refl);
+      owners = found_of (IsOf client) (is_legal r) (tail_of t k) (of_tail (IsOf client) t k (λ kind i. inl refl) (λ i. inl refl) (inl refl) (inl refl));
+    }
 
 -- Writes
 

@@ -32,7 +32,6 @@ use Rattle.kms_core.specs.Locks.{lock_steps, locked_answer, locked_as, present_s
 use Rattle.kms_core.specs.Run.{Run, machine}
 use Rattle.kms_device.specs.declared.attempt.Attempt.{Attempt}
 use Rattle.kms_device.specs.declared.attempt.Attempted.TheVariants as attempted
-use Rattle.kms_device.specs.Steps.{owner}
 use Rattle.kms_device.specs.Attempts.{AreLookedUp, AsksNext, ComesNext, ComesNextAt, FindsRequest, IsInVain, WaitsAt, states_after, step_of_move, taken_in}
 use Rattle.kms_device.specs.Trying.{DidAndKeeps, IsReady, attempted_of, kept_of, with_state}
 use Rattle.kms_device.specs.Turns.{DevicePass, DeviceTurn, run_seen}

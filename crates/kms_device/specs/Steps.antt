@@ -1,6 +1,6 @@
 -- Whose a step is, what is counted of a history, and the tail of a commit. From: `drm_vblank.c`, drm_crtc_vblank_count (the counts
 -- of CRTCs); `drm_atomic_helper.c`, commit_tail (the order of a tail).
-use Rattle.std.specs.Prelude.{ℕ, ◌≤◌, ◌≡◌, ◌&&◌, nat_le, Bool, true, false, List, [], ◌∷◌, ◌++◌, All}
+use Rattle.std.specs.Prelude.{ℕ, ◌≤◌, ◌≡◌, ◌&&◌, nat_le, Bool, true, false, List, [], ◌∷◌, ◌++◌, All, Option, Some, None}
 use Prim.Native.Nat.{zero-le, suc-le-suc}
 use Rattle.kms_model.specs.declared.objects.Kind.{Kind}
 use Rattle.kms_model.specs.declared.objects.Kind.TheVariants.{Crtc, Plane}
@@ -9,7 +9,7 @@ use Rattle.kms_model.specs.declared.objects.Topology.{Topology}
 use Rattle.kms_model.specs.declared.replies.Step.{Step}
 use Rattle.kms_model.specs.declared.replies.Step.TheVariants.{Cleanup, Flush, HwDone, Stall, Write}
 use Rattle.kms_model.specs.Device.Objects.{exists, first_id, kind_of}
-use Rattle.kms_model.specs.Machine.Histories.{for_each, legal}
+use Rattle.kms_model.specs.Machine.Histories.{for_each, is_drained, legal}
 use Rattle.kms_model.specs.Promises.{client_of_step}
 use Rattle.kms_laws.specs.Blankings.{blankings, is_blanking, one_more_if}
 use Rattle.kms_core.specs.Decisions.{number_or_0}
@@ -46,6 +46,11 @@ NeverEnds steps = All (λ step. is_stall step ≡ false) steps
 abbrev pub step_if : Bool → Step → List Step
 step_if false step = []
 step_if true step = step ∷ []
+
+-- whether the history is drained, where a call found nothing to do
+abbrev pub rests_in : {A : Type 0} → Option A → Run → Bool
+rests_in None r = is_drained r.script (machine r)
+rests_in (Some a) r = false
 
 -- the device has the CRTC with an index, and it latches a commit at its next vblank
 abbrev pub blanks_at : Run → ℕ → Bool

@@ -1,5 +1,5 @@
 -- What the parts of an attempt are given and what they do. From: as for attempts.
-use Rattle.std.specs.Prelude.{◌≡◌, ⊤, ℕ, List, [], length, Some, Result, Ok, Err, if◌then◌else◌}
+use Rattle.std.specs.Prelude.{◌≡◌, ⊤, ℕ, List, [], length, Some, Result, Ok, Err}
 use Rattle.kms_model.specs.declared.objects.ObjId.{ObjId}
 use Rattle.kms_model.specs.declared.objects.Ticket.{Ticket}
 use Rattle.kms_model.specs.declared.replies.Step.TheVariants as step
@@ -11,7 +11,6 @@ use Rattle.kms_model.specs.declared.states.ObjState.{ObjState}
 use Rattle.kms_model.specs.declared.worlds.Look.{Look}
 use Rattle.kms_model.specs.Machine.State.{doing_at, request_at}
 use Rattle.kms_model.specs.Request.Lookups.{lookups}
-use Rattle.kms_state.specs.Places.{duplicated, may_duplicate}
 use Rattle.kms_core.specs.declared.calls.contexts.Locked.{Locked}
 use Rattle.kms_core.specs.declared.calls.contexts.Locked.TheVariants as locked
 use Rattle.kms_core.specs.declared.stores.looking.Decided.{Decided}
@@ -46,10 +45,11 @@ kept_in work = with_looks work.looks work.states
 -- The client takes locks for the request in the context, and the look-ups and the states serve.
 pub record Works (script : Script) (pass : DevicePass) (work : Work) : Type 0 where
   pub ready : IsReady script pass (kept_in work)
-  pub takes : TakesLocksFor script pass work.t work.request.now
+  pub takes : TakesLocksFor script pass work.taking.t work.taking.request.now
 
 -- What an attempt did and keeps: the next can be made with it.
-pub record DidAndKeeps (script : Script) (before : DevicePass) (kept : Attempt) (after : DevicePass) (did : Attempted) (keeps : Attempt) : Type 0 where
+pub record DidAndKeeps (script : Script) (before : DevicePass) (kept : Attempt) (after : DevicePass) (did : Attempted) (keeps : Attempt) :
+    Type 0 where
   pub is_attempt : IsAttempt script before.rank before kept after keeps did
   pub goes_on : GoesOnAt (run_seen script before) (run_seen script after) before.rank did
   pub serves : Serves (run_seen script after) before.rank keeps
@@ -82,7 +82,8 @@ kept_of id (locked.Younger holder) kept = kept
 kept_of id (locked.Held holder) kept = kept
 
 -- What came of an answer to a call that decides a request: the reply; or the look-ups were made anew, in a turn of their own.
-pub record LooksAnew (script : Script) (request : Request) (kept : Attempt) (before after : DevicePass) (did : Attempted) (keeps : Attempt) : Type 0 where
+pub record LooksAnew (script : Script) (request : Request) (kept : Attempt) (before after : DevicePass) (did : Attempted) (keeps : Attempt)
+    : Type 0 where
   pub told : List (ℕ × Look)
   pub turn : DeviceTurn script (λ found. told ≡ lookups (world found) request) [] before after
   pub did_is : did ≡ attempted.Did
@@ -95,9 +96,12 @@ pub record IsTold (before after : DevicePass) (did told : Attempted) (keeps kept
   pub keeps_is : keeps ≡ kept
 
 abbrev pub Concludes : Script → Request → Attempt → DevicePass → Decided → DevicePass → Attempted → Attempt → Type 0
-Concludes script request kept before (decided.Done reply) after did keeps = IsTold before after did (attempted.Answered reply) keeps new_attempt
-Concludes script request kept before (decided.Refused reply) after did keeps = IsTold before after did (attempted.Answered reply) keeps new_attempt
-Concludes script request kept before (decided.NotYet object commit) after did keeps = IsTold before after did (attempted.NotYet (length before.seen)) keeps kept
+Concludes script request kept before (decided.Done reply) after did keeps =
+    IsTold before after did (attempted.Answered reply) keeps new_attempt
+Concludes script request kept before (decided.Refused reply) after did keeps =
+    IsTold before after did (attempted.Answered reply) keeps new_attempt
+Concludes script request kept before (decided.NotYet object commit) after did keeps =
+    IsTold before after did (attempted.NotYet (length before.seen)) keeps kept
 Concludes script request kept before (decided.Again label was now) after did keeps = LooksAnew script request kept before after did keeps
 
 -- no memory for new look-ups

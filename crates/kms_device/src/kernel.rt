@@ -1,10 +1,11 @@
 //! What lies under the lock.
-ghost use Rattle.std.specs.Prelude.{◌≡◌, ◌∷◌, [], IfOk};
+ghost use Rattle.std.specs.Prelude.{◌≡◌, ◌&&◌, ◌∷◌, [], IfOk, not};
 ghost use Rattle.std.specs.Fn.{FnOnceReturnsAtMut, FnOnceTakesAtMut};
 ghost use Rattle.kms_model.specs.declared.objects.Kind.TheVariants.{Crtc};
 ghost use Rattle.kms_model.specs.declared.replies.Step.TheVariants as step;
 ghost use Rattle.kms_model.specs.Script.WellFormed.{IsWellFormed};
-ghost use Rattle.kms_core.specs.Run.{Run, gains};
+ghost use Rattle.kms_model.specs.Machine.Histories.{is_drained};
+ghost use Rattle.kms_core.specs.Run.{Run, gains, machine};
 ghost use Rattle.kms_device.specs.Kernels.{AddsPlain};
 ghost use Rattle.kms_device.specs.Steps.{blanks_at, step_if};
 
@@ -112,6 +113,18 @@ impl Kernel {
         };
         self.counts[crtc as usize] += 1;
         true
+    }
+
+    /// Has the vblank where the CRTC latches a commit then. Where not, it tells whether the history is drained.
+    pub(crate) fn vblank_or_rest(&mut self, crtc: u32) -> (bool, bool)
+        ensures answer { result.0 ≡ blanks_at self.old crtc }
+        ensures rests { result.1 ≡ (not result.0 && is_drained self.old.script (machine self.old)) }
+        ensures history { self.new ≡ gains self.old (step_if result.0 (step.Vblank Crtc crtc)) }
+    {
+        if self.vblank(crtc) {
+            return (true, false);
+        }
+        (false, self.core.drained())
     }
 
     /// The machine.

@@ -51,7 +51,7 @@ impl Device {
                     unreachable!();
                 };
                 gate.at(rt, Point::Check, client, place.command);
-                self.move_on(rt, alloc, pass, t, request, kept)
+                self.move_on(rt, alloc, pass, Taking { t, request }, kept)
             }
             Doing::Returning(_commit) => unreachable!(),
         }
@@ -124,31 +124,28 @@ impl Device {
         rt: &W,
         alloc: Global,
         pass: &mut Pass,
-        t: Ticket,
-        request: &Request,
+        taking: Taking,
         kept: Attempt,
     ) -> Result<(Attempted, Attempt), NoMemory>
         requires own { pass.old.lock ≡ self.now.lock }
         requires ready { IsReady self.now.script pass.old kept }
-        requires takes { TakesLocksFor self.now.script pass.old t request.now }
+        requires takes { TakesLocksFor self.now.script pass.old taking.t taking.request.now }
         ensures { Tried self.now.script pass.old kept pass.new result }
     {
         let Attempt { looks, states } = kept;
         match looks {
             Some(looks) => {
                 let work = Work {
-                    t,
-                    request,
+                    taking,
                     looks,
                     states,
                 };
                 self.move_with(rt, alloc, pass, work)
             }
             None => {
-                let looks = self.lookups(rt, alloc, pass, request)?;
+                let looks = self.lookups(rt, alloc, pass, taking.request)?;
                 let work = Work {
-                    t,
-                    request,
+                    taking,
                     looks,
                     states,
                 };
@@ -170,11 +167,18 @@ impl Device {
         ensures { Tried self.now.script pass.old (kept_in work.entry) pass.new result }
     {
         let topology = &self.script().topology;
-        match next_move(alloc, topology, work.request, &work.looks, &work.states)? {
+        match next_move(
+            alloc,
+            topology,
+            work.taking.request,
+            &work.looks,
+            &work.states,
+        )? {
             Move::Lock(id) => self.ask_for(rt, pass, id, work),
             Move::Refuse(why) => self.turn_down(rt, alloc, pass, why, work),
             Move::Accept(checked, resolved) => {
-                self.accept(rt, alloc, pass, &checked, &resolved, work)
+                let accepted = Accepted { checked, resolved };
+                self.accept(rt, alloc, pass, &accepted, work)
             }
         }
     }
@@ -189,11 +193,11 @@ impl Device {
     ) -> Result<(Attempted, Attempt), NoMemory>
         requires own { pass.old.lock ≡ self.now.lock }
         requires works { Works self.now.script pass.old work }
-        requires asks { AsksFor self.now.script.topology work.request.now work.looks work.states
-            id }
+        requires asks { AsksFor self.now.script.topology work.taking.request.now work.looks
+            work.states id }
         ensures { Tried self.now.script pass.old (kept_in work.entry) pass.new result }
     {
-        let answer = self.lock(rt, pass, work.t, id)?;
+        let answer = self.lock(rt, pass, work.taking.t, id)?;
         Ok(after_lock(pass.seen_len(), id, answer, work.into_kept()))
     }
 
@@ -208,11 +212,11 @@ impl Device {
     ) -> Result<(Attempted, Attempt), NoMemory>
         requires own { pass.old.lock ≡ self.now.lock }
         requires works { Works self.now.script pass.old work }
-        requires refused { RefusedBy self.now.script.topology work.request.now work.looks
+        requires refused { RefusedBy self.now.script.topology work.taking.request.now work.looks
             work.states why }
         ensures { Tried self.now.script pass.old (kept_in work.entry) pass.new result }
     {
-        let answer = self.refuse(rt, pass, work.t, &work.looks, why)?;
+        let answer = self.refuse(rt, pass, work.taking.t, &work.looks, why)?;
         self.conclude(rt, alloc, pass, answer, work)
     }
 
@@ -222,21 +226,23 @@ impl Device {
         rt: &W,
         alloc: Global,
         pass: &mut Pass,
-        checked: &Checked,
-        resolved: &Resolved,
+        accepted: &Accepted,
         work: Work,
     ) -> Result<(Attempted, Attempt), NoMemory>
         requires own { pass.old.lock ≡ self.now.lock }
         requires works { Works self.now.script pass.old work }
-        requires accepted { AcceptedAs self.now.script.topology work.request.now work.looks
-            work.states checked.now resolved.now }
+        requires accepted { AcceptedAs self.now.script.topology work.taking.request.now work.looks
+            work.states accepted.now.checked accepted.now.resolved }
         ensures { Tried self.now.script pass.old (kept_in work.entry) pass.new result }
     {
-        if is_test(work.request.flags) {
-            let answer = self.test(rt, pass, work.t, &work.looks, checked)?;
+        let checked = &accepted.checked;
+        let resolved = &accepted.resolved;
+        let t = work.taking.t;
+        if is_test(work.taking.request.flags) {
+            let answer = self.test(rt, pass, t, &work.looks, checked)?;
             return self.conclude(rt, alloc, pass, answer, work);
         }
-        let answer = self.swap(rt, alloc, pass, work.t, &work.looks, checked, resolved)?;
+        let answer = self.swap(rt, alloc, pass, t, &work.looks, checked, resolved)?;
         self.conclude(rt, alloc, pass, answer, work)
     }
 
@@ -250,7 +256,7 @@ impl Device {
         work: Work,
     ) -> Result<(Attempted, Attempt), NoMemory>
         requires own { pass.old.lock ≡ self.now.lock }
-        ensures did { IfOk result (λ did. Concludes self.now.script work.entry.request.now
+        ensures did { IfOk result (λ did. Concludes self.now.script work.entry.taking.request.now
             (kept_in work.entry) pass.old answer pass.new did.0 did.1) }
         ensures vain { OnErr result (LooksInVain self.now.script answer pass.old pass.new) }
     {
@@ -263,19 +269,31 @@ impl Device {
                 Ok((Attempted::NotYet { length }, work.into_kept()))
             }
             Decided::Again { .. } => {
-                let looks = self.lookups(rt, alloc, pass, work.request)?;
+                let looks = self.lookups(rt, alloc, pass, work.taking.request)?;
                 Ok((Attempted::Did, Work { looks, ..work }.into_kept()))
             }
         }
     }
 }
 
-/// What a client works with that takes locks for its request in the context of a ticket: what the request's labels named, and the
-/// states that its locks gave.
-#[derive(Drop)]
-pub(crate) struct Work<'a> {
+/// The request for which a client takes locks, and the ticket of its context.
+#[derive(Clone, Copy)]
+pub(crate) struct Taking<'a> {
     t: Ticket,
     request: &'a Request,
+}
+
+/// An accepted request: what its check gave, and what its labels name.
+#[derive(Drop)]
+pub(crate) struct Accepted {
+    checked: Checked,
+    resolved: Resolved,
+}
+
+/// What a client works with that takes locks: what its request's labels named, and the states that its locks gave.
+#[derive(Drop)]
+pub(crate) struct Work<'a> {
+    taking: Taking<'a>,
     looks: Lookups,
     states: Duplicates,
 }

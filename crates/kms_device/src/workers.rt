@@ -1,12 +1,13 @@
 //! The calls of workers and of vblanks. They take no memory, and ask for nothing of what the pass has seen.
-ghost use Rattle.std.specs.Prelude.{◌≡◌, ◌∷◌, [], find, true};
+ghost use Rattle.std.specs.Prelude.{◌≡◌, ◌&&◌, ◌∷◌, [], find, not, true};
 ghost use Rattle.std.specs.List.{range_with_len};
 ghost use Rattle.std.specs.Option.{option_to_list};
 ghost use Rattle.kms_model.specs.declared.objects.Kind.TheVariants.{Crtc};
 ghost use Rattle.kms_model.specs.declared.replies.Step.TheVariants as step;
-ghost use Rattle.kms_core.specs.Run.{Run, gains};
+ghost use Rattle.kms_model.specs.Machine.Histories.{is_drained};
+ghost use Rattle.kms_core.specs.Run.{Run, gains, machine};
 ghost use Rattle.kms_core.specs.Work.{claim_steps, first_claim, write_step};
-ghost use Rattle.kms_device.specs.Steps.{blanks_at, is_legal, may_write, write_or_flush, step_if, tail_of};
+ghost use Rattle.kms_device.specs.Steps.{blanks_at, is_legal, may_write, rests_in, step_if, tail_of, write_or_flush};
 ghost use Rattle.kms_device.specs.Turns.{DeviceTurn};
 
 use crate::device::Device;
@@ -24,6 +25,16 @@ impl Device {
             (claim_steps result) pass.old pass.new }
     {
         self.turn(rt, pass, |core: &mut Core| core.claim())
+    }
+
+    /// Claims as `claim` does. Where there is nothing to claim, the same turn tells whether the history is drained.
+    pub fn claim_or_rest<W: Wait>(&self, rt: &W, pass: &mut Pass) -> (Option<u32>, bool)
+        requires own { pass.old.lock ≡ self.now.lock }
+        ensures { DeviceTurn self.now.script
+            (λ found. (result.0 ≡ first_claim found) × (result.1 ≡ rests_in result.0 found))
+            (claim_steps result.0) pass.old pass.new }
+    {
+        self.turn(rt, pass, |core: &mut Core| claim_or_rest(core))
     }
 
     /// Writes the registers of the CRTC or the plane that a commit, by its number from 0, writes next, as the machine's `write`
@@ -80,6 +91,32 @@ impl Device {
         self.turn(rt, pass, |core: &mut Core| work_on(core, commit))
     }
 
+    /// Does what `work_on` does. Where nothing is done, the same turn tells whether the history is drained.
+    pub fn work_or_rest<W: Wait>(
+        &self,
+        rt: &W,
+        pass: &mut Pass,
+        commit: u32,
+    ) -> (Option<Step>, bool)
+        requires own { pass.old.lock ≡ self.now.lock }
+        ensures { DeviceTurn self.now.script (λ found.
+            (result.0 ≡ find (is_legal found) (tail_of found.script.topology commit))
+            × (result.1 ≡ rests_in result.0 found))
+            (option_to_list result.0) pass.old pass.new }
+    {
+        self.turn(rt, pass, |core: &mut Core| work_or_rest(core, commit))
+    }
+
+    /// Has a vblank as `vblank` does. Where there is none, the same turn tells whether the history is drained.
+    pub fn vblank_or_rest<W: Wait>(&self, rt: &W, pass: &mut Pass, crtc: u32) -> (bool, bool)
+        requires own { pass.old.lock ≡ self.now.lock }
+        ensures { DeviceTurn self.now.script (λ found. (result.0 ≡ blanks_at found crtc)
+            × (result.1 ≡ (not result.0 && is_drained found.script (machine found))))
+            (step_if result.0 (step.Vblank Crtc crtc)) pass.old pass.new }
+    {
+        self.lock.with(rt, pass, |kernel: &mut Kernel| kernel.vblank_or_rest(crtc))
+    }
+
     /// The CRTC with an index has a vblank at which it latches a commit, as the machine's `vblank` does. False, and no
     /// step, exactly where it latches none then in the history that was found, or the device has no such CRTC.
     pub fn vblank<W: Wait>(&self, rt: &W, pass: &mut Pass, crtc: u32) -> bool
@@ -89,6 +126,30 @@ impl Device {
     {
         self.lock
             .with(rt, pass, |kernel: &mut Kernel| kernel.vblank(crtc))
+    }
+}
+
+/// Claims the least commit whose tail may begin. Where there is none it tells whether the history is drained.
+fn claim_or_rest(core: &mut Core) -> (Option<u32>, bool)
+    ensures claimed { result.0 ≡ first_claim core.old }
+    ensures rests { result.1 ≡ rests_in result.0 core.old }
+    ensures history { core.new ≡ gains core.old (claim_steps result.0) }
+{
+    match core.claim() {
+        Some(commit) => (Some(commit), false),
+        None => (None, core.drained()),
+    }
+}
+
+/// Does the first step of a commit's tail that is legal. Where there is none it tells whether the history is drained.
+fn work_or_rest(core: &mut Core, commit: u32) -> (Option<Step>, bool)
+    ensures step { result.0 ≡ find (is_legal core.old) (tail_of core.old.script.topology commit) }
+    ensures rests { result.1 ≡ rests_in result.0 core.old }
+    ensures history { core.new ≡ gains core.old (option_to_list result.0) }
+{
+    match work_on(core, commit) {
+        Some(step) => (Some(step), false),
+        None => (None, core.drained()),
     }
 }
 

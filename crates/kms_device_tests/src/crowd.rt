@@ -82,9 +82,8 @@ fn drive_two<R: Threads + Wait + Sync>(
 }
 
 /// Four threads drive.
-fn drive<R: Threads + Wait + Sync>(
+fn drive<R: AllocGlobal + Threads + Wait + Sync>(
     rt: &R,
-    alloc: Global,
     device: &Device,
     a: Two,
     b: Two,
@@ -100,6 +99,7 @@ fn drive<R: Threads + Wait + Sync>(
     ensures c { AreSame c result.1.0 }
     ensures d { AreSame d result.1.1 }
 {
+    let alloc = rt.alloc();
     join(
         rt,
         || -> Four
@@ -169,7 +169,7 @@ fn eight_clients_in_four_threads_commit(rt: HostRuntime) -> Result<(), Fail> {
     let text = script(rt.alloc())?;
     let (device, (mut a, b), (c, d)) = opened(&rt, text.as_str());
     light(&rt, &device, &mut a);
-    let ((a, b), (c, d)) = drive(&rt, rt.alloc(), &device, a, b, c, d);
+    let ((a, b), (c, d)) = drive(&rt, &device, a, b, c, d);
     let core = closed(&rt, device, a, b, c, d);
     assert_all(&rt, &core);
     Ok(())

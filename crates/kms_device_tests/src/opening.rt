@@ -8,7 +8,6 @@ use kms_device::{Device, Pass};
 use kms_model::{NoMemory, Part, Seq};
 use kms_pass_calls::{Call, Told, make_call};
 use kms_script::parse;
-use std::alloc::Global;
 use std::process::Abort;
 use std::sync::Wait;
 
@@ -70,9 +69,8 @@ fn assert_differs(rt: &(impl Abort + AllocGlobal), core: &Core) {
 }
 
 /// Makes a call through one of two passes: the first, or any other number for the other.
-fn call_at<W: Wait>(
-    rt: &W,
-    alloc: Global,
+fn call_at(
+    rt: &(impl AllocGlobal + Wait),
     device: &Device,
     one: &mut Pass,
     other: &mut Pass,
@@ -85,9 +83,9 @@ fn call_at<W: Wait>(
     ensures other { IsSamePass other.old other.new }
 {
     if seat == 1 {
-        make_call(rt, alloc, device, one, what)
+        make_call(rt, rt.alloc(), device, one, what)
     } else {
-        make_call(rt, alloc, device, other, what)
+        make_call(rt, rt.alloc(), device, other, what)
     }
 }
 
@@ -107,7 +105,7 @@ pub(crate) fn assert_calls(
     let mut number = 0u32;
     for (seat, what, want) in calls {
         number = number.saturating_add(1);
-        let told = call_at(rt, rt.alloc(), device, one, other, *seat, *what);
+        let told = call_at(rt, device, one, other, *seat, *what);
         assert!(rt; told == Ok(*want), "call {number}, at {seat}");
     }
 }

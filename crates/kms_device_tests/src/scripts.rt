@@ -4,7 +4,7 @@ use std::alloc::Global;
 use std::test::Fail;
 
 /// How many commits each client makes, a count.
-pub(crate) const COMMITS: u32 = 2500;
+pub(crate) const COMMITS: u32 = 100;
 
 /// How many clients there are. Each has a plane that CRTCs show, whose index is its number less one, and one that is off.
 pub(crate) const CLIENTS: u32 = 8;

@@ -20,7 +20,10 @@ const LOOKS: u32 = 400;
 /// How many microseconds it sleeps then.
 const NAP: u64 = 20;
 
-// Lets some time go by between two looks at the served word. The pass looks `LOOKS` times in a row at first, for a turn is short.
+/// How many times a pass looks for a lock that nobody uses before it draws a number all the same, a count.
+const PATIENCE: u32 = 440;
+
+// Lets some time go by between two looks at the words. The pass looks `LOOKS` times in a row at first, for a turn is short.
 // Then it sleeps, so that whoever has the turn finds a processor where there are more threads than processors. Nobody
 // wakes it: `bed` is 0 always.
 fn pause<W: Wait>(rt: &W, bed: &AtomicU64, looks: u32) {
@@ -28,6 +31,21 @@ fn pause<W: Wait>(rt: &W, bed: &AtomicU64, looks: u32) {
         spin_loop();
     } else {
         bed.park_timeout(rt, 0, Duration::from_micros(NAP));
+    }
+}
+
+// Looks again and again, until nobody has a number, or patience ends. Who sleeps here has drawn none yet, so that nobody waits
+// for who sleeps: that the turn is passed on to a sleeper again and again is what made many threads slower than one.
+fn until_free<T: Kept, W: Wait>(rt: &W, words: &Words<T>)
+    requires sized { IsSized words.now.table_id }
+{
+    let bed = AtomicU64::new(0);
+    for looks in 0..PATIENCE {
+        let served = words.peek(SERVED);
+        if served == words.peek(TICKETS) {
+            return;
+        }
+        pause(rt, &bed, looks);
     }
 }
 
@@ -50,7 +68,7 @@ fn wait<T: Kept, W: Wait>(rt: &W, words: &Words<T>, seat: &mut TableSeat<T>, num
     unreachable!()
 }
 
-/// Waits for the turn, and takes the value.
+/// Waits for the turn, and takes the value. It draws a number once nobody has one, as far as two looks tell.
 pub(crate) fn take<T: Kept, W: Wait>(rt: &W, words: &Words<T>, seat: &mut TableSeat<T>) -> T
     requires own { (seat.old.table_id ≡ words.now.table_id) × IsSized words.now.table_id }
     requires rests { (seat.old.me.0.stage ≡ Idle) × (seat.old.me.1 ≡ [])
@@ -58,6 +76,7 @@ pub(crate) fn take<T: Kept, W: Wait>(rt: &W, words: &Words<T>, seat: &mut TableS
     ensures same { IsSameSeat seat.old seat.new }
     ensures turn { HasTurn T.owner T.entries T.counted T.fixed seat.old.me result seat.new.me }
 {
+    until_free(rt, words);
     let number = words.fetch_add::<Draw>(seat, TICKETS, 1);
     wait(rt, words, seat, number);
     words.exchange(seat, VALUE, None).unwrap()

@@ -1,7 +1,7 @@
 -- Where a client stands, and which step comes next there.
-use Rattle.std.proofs.Common.{◌≡◌, ◌⊎◌, ℕ, [], ◌∷◌, Bool, true, false, Option, Some, None, Result, Ok, Err, inl, inr, refl, sym, ap, ◌∙◌, subst}
-use Rattle.std.specs.Prelude.{◌&&◌, IfOk, OnErr, is_none}
-use Rattle.std.proofs.lemmas.Bool.{and_from, and_parts, false≢true}
+use Rattle.std.proofs.Common.{◌≡◌, ◌⊎◌, ℕ, [], ◌∷◌, true, Option, Some, None, Result, Ok, Err, inl, inr, refl, sym, ap, ◌∙◌, subst}
+use Rattle.std.specs.Prelude.{IfOk, OnErr, is_none}
+use Rattle.std.proofs.lemmas.Bool.{and_from}
 use Rattle.kms_model.specs.declared.runs.Doing.{Doing}
 use Rattle.kms_model.specs.declared.runs.Doing.TheVariants as doing
 use Rattle.kms_model.specs.declared.runs.Place.{Place}
@@ -13,7 +13,6 @@ use Rattle.kms_model.specs.Device.Serial.{command_of}
 use Rattle.kms_model.specs.Machine.Histories.{is_at_end}
 use Rattle.kms_model.specs.Machine.State.{command_at, doing_at, place_at, request_at, request_in}
 use Rattle.kms_model.specs.Machine.Steps.{is_idle, returning_of}
-use Rattle.kms_model.proofs.Facts.{nothing_there}
 use Rattle.kms_model.proofs.CommitFacts.{returning_not}
 use Rattle.kms_laws.specs.Laws.{has_context}
 use Rattle.kms_laws.proofs.Contexts.{HasRequest}

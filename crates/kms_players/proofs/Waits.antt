@@ -1,12 +1,15 @@
 -- Turns of a pass, one after the other.
-use Rattle.std.proofs.Common.{◌≡◌, List, [], ◌++◌, append-nil, refl, sym, ap, ◌∙◌}
+use Rattle.std.proofs.Common.{◌≡◌, ℕ, List, [], ◌++◌, append-nil, Option, refl, sym, ap, ◌∙◌, subst}
 use Rattle.kms_model.specs.declared.replies.Step.{Step}
 use Rattle.kms_model.specs.declared.scripts.Script.{Script}
 use Rattle.kms_core.specs.Run.{Run}
+use Rattle.kms_device.specs.declared.attempt.Attempt.{Attempt}
 use Rattle.kms_device.specs.Attempts.{Went}
-use Rattle.kms_device.specs.Turns.{DevicePass, IsOpen, MayBeFound, DeviceTurn, run_seen}
+use Rattle.kms_device.specs.Turns.{DevicePass, DeviceTurn, IsOpen, MayBeFound, SharedDevice, run_seen}
 use Rattle.kms_device.proofs.Went.{went_turn}
 use Rattle.kms_players.specs.Players.{name_of_pass}
+use Rattle.kms_players.specs.Took.{Reads}
+use Rattle.kms_players.specs.UnderWay.{IsAtDevice, IsUnderWay}
 
 -- a turn tells what follows of what it found
 pub turn_says : (script : Script) (says tells : Run → Type 0) (steps : List Step) (before after : DevicePass)
@@ -30,3 +33,11 @@ seen-found script says before after t =
 
 pub went_none : (script : Script) (says : Run → Type 0) (before after : DevicePass) → DeviceTurn script says [] before after → Went [] before after
 went_none script says before after t = went_turn script says [] before after refl t
+
+-- a look at the history's length leaves what the pass has seen, and so what a client keeps true of itself
+pub look_keeps : (device : SharedDevice) (client : ℕ) (kept : Attempt) (under_way : Option ℕ) (old new : DevicePass) {told : ℕ} → Reads old new told
+    → IsAtDevice device client old × IsUnderWay (run_seen device.script old) client kept under_way
+    → IsAtDevice device client new × IsUnderWay (run_seen device.script new) client kept under_way
+look_keeps device client kept under_way old new r both =
+    subst (λ p. IsAtDevice device client p × IsUnderWay (run_seen device.script p) client kept under_way) (sym r.now)
+    (record { own = both.0.own; whose = both.0.whose; low = both.0.low; high = both.0.high }, both.1)

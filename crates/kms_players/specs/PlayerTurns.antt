@@ -1,6 +1,6 @@
 -- What a turn of a player came to. From: "Atomic Mode Setting", `drm_atomic_helper.c`, commit_tail (workers);
 -- "Vertical Blanking". That players take turns, one step at a time, is this device's own.
-use Rattle.std.specs.Prelude.{◌≡◌, ◌⊎◌, ℕ, Bool, true, false, List, [], ◌∷◌, length, find, Option, Some, None, if◌then◌else◌}
+use Rattle.std.specs.Prelude.{◌≡◌, ◌⊎◌, ℕ, Bool, true, false, [], ◌∷◌, length, find, Option, Some, None, if◌then◌else◌}
 use Rattle.std.specs.Option.{option_map}
 use Rattle.kms_model.specs.declared.objects.Kind.TheVariants.{Crtc}
 use Rattle.kms_model.specs.declared.replies.Reply.{Reply}
@@ -18,10 +18,9 @@ use Rattle.kms_pool.specs.declared.player.Turn.TheVariants.{Did, Ended, NotYet}
 use Rattle.kms_core.specs.Run.{Run, machine}
 use Rattle.kms_core.specs.Work.{first_claim}
 use Rattle.kms_device.specs.declared.attempt.Attempt.{Attempt}
-use Rattle.kms_device.specs.declared.attempt.Attempted.{Attempted}
 use Rattle.kms_device.specs.declared.attempt.Attempted.TheVariants as attempted
 use Rattle.kms_device.specs.Attempts.{IsAttempt, MayAttempt, Went}
-use Rattle.kms_device.specs.Steps.{blanks_at, is_legal, step_if, tail_of}
+use Rattle.kms_device.specs.Steps.{blanks_at, is_legal, tail_of}
 use Rattle.kms_device.specs.Turns.{DevicePass, DeviceTurn, run_seen}
 
 -- A client's turn
@@ -89,11 +88,11 @@ ClientTurn script client before old after new answer = Plays script client befor
 abbrev pub DoesStep : Script → (Run → Option Step) → DevicePass → DevicePass → Step → Type 0
 DoesStep script step_in before after next = DeviceTurn script (λ found. step_in found ≡ Some next) (next ∷ []) before after
 
--- It found that it may do none, in a history of a length, and then whether the history is drained.
-pub record FindsNoStep (script : Script) (step_in : Run → Option Step) (length_found : ℕ) (drained : Bool) (before after : DevicePass) : Type 0 where
-  pub told : DevicePass
-  pub waits : DeviceTurn script (λ found. (step_in found ≡ None) × (length found.steps ≡ length_found)) [] before told
-  pub asked : DeviceTurn script (λ found. is_drained found.script (machine found) ≡ drained) [] told after
+-- It found that it may do none, in a history of a length, and whether that history is drained.
+abbrev pub FindsNoStep : Script → (Run → Option Step) → ℕ → Bool → DevicePass → DevicePass → Type 0
+FindsNoStep script step_in length_found drained before after =
+    DeviceTurn script
+    (λ found. (step_in found ≡ None) × (length found.steps ≡ length_found) × (is_drained found.script (machine found) ≡ drained)) [] before after
 
 -- what a turn comes to that found nothing to do in a history of a length, by whether the history is drained
 abbrev pub told_at : ℕ → Bool → pool.Turn

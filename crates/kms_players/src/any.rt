@@ -1,7 +1,7 @@
 //! Players of every kind.
 ghost use Rattle.std.specs.Prelude.{◌≡◌};
 ghost use Rattle.kms_players.specs.Players.{name_of_pass};
-ghost use Rattle.kms_players.specs.AnyPlayers.{Took, answer_of, pass_of};
+ghost use Rattle.kms_players.specs.AnyPlayers.{Looked, Took, answer_of, pass_of};
 
 use crate::client::Client;
 use crate::name::Name;
@@ -47,11 +47,21 @@ impl<'a, G: Gate> Player for AnyPlayer<'a, G> {
 
     ghost took = { Took };
 
+    ghost looked = { Looked };
+
     fn turn<W: Wait>(&mut self, rt: &W, alloc: Global) -> Result<Turn, NoMemory> {
         match self {
             AnyPlayer::Client(client) => client.turn(rt, alloc),
             AnyPlayer::Worker(worker) => worker.turn(rt, alloc),
             AnyPlayer::Vblank(tick) => tick.turn(rt, alloc),
+        }
+    }
+
+    fn history_len(&mut self) -> u64 {
+        match self {
+            AnyPlayer::Client(client) => client.history_len(),
+            AnyPlayer::Worker(worker) => worker.history_len(),
+            AnyPlayer::Vblank(tick) => tick.history_len(),
         }
     }
 }

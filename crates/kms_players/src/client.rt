@@ -3,8 +3,9 @@ ghost use Rattle.std.specs.Prelude.{◌≡◌, ◌≤◌, [], length, Some, None
 ghost use Rattle.kms_device.specs.Attempts.{Went, new_attempt};
 ghost use Rattle.kms_players.specs.Players.{name_of_pass};
 ghost use Rattle.kms_players.specs.PlayerTurns.{ClientTurn};
-ghost use Rattle.kms_players.specs.Took.{ClientTook};
+ghost use Rattle.kms_players.specs.Took.{ClientLooked, ClientTook};
 
+use crate::looking::look;
 use crate::name::Name;
 use crate::site::Site;
 use kms_device::{Attempt, Device, Pass};
@@ -94,6 +95,15 @@ impl<'a, G: Gate> Client<'a, G> {
         Ok(turn)
     }
 
+    /// How long the history is, as far as one load tells. It is no turn, and waits for nobody.
+    pub fn look(&mut self) -> u64
+        ensures looked { ClientLooked self.old self.new result }
+        ensures name { name_of_pass self.new.pass ≡ name_of_pass self.old.pass }
+        ensures last { self.new.last ≡ self.old.last }
+    {
+        look(self.site.device, &mut self.pass)
+    }
+
     /// Its pass, when it is given up.
     pub fn into_pass(self) -> Pass
         ensures { result ≡ self.entry.pass }
@@ -111,7 +121,13 @@ impl<'a, G: Gate> Player for Client<'a, G> {
 
     ghost took = { ClientTook };
 
+    ghost looked = { ClientLooked };
+
     fn turn<W: Wait>(&mut self, rt: &W, alloc: Global) -> Result<Turn, NoMemory> {
         self.play(rt, alloc)
+    }
+
+    fn history_len(&mut self) -> u64 {
+        self.look()
     }
 }

@@ -6,6 +6,7 @@
 
 mod any;
 mod client;
+mod looking;
 mod name;
 mod resting;
 mod site;

@@ -2,8 +2,9 @@
 ghost use Rattle.std.specs.Prelude.{◌≡◌, ◌<◌, length, Some, None};
 ghost use Rattle.kms_players.specs.Players.{name_of_pass};
 ghost use Rattle.kms_players.specs.PlayerTurns.{TickTurn};
-ghost use Rattle.kms_players.specs.Took.{TickTook};
+ghost use Rattle.kms_players.specs.Took.{TickLooked, TickTook};
 
+use crate::looking::look;
 use crate::name::Name;
 use crate::resting::rest;
 use kms_device::{Device, Pass};
@@ -72,6 +73,15 @@ impl<'a, G: Gate> VblankTick<'a, G> {
         turn
     }
 
+    /// How long the history is, as far as one load tells. It is no turn, and waits for nobody.
+    pub fn look(&mut self) -> u64
+        ensures looked { TickLooked self.old self.new result }
+        ensures name { name_of_pass self.new.pass ≡ name_of_pass self.old.pass }
+        ensures last { self.new.last ≡ self.old.last }
+    {
+        look(self.device, &mut self.pass)
+    }
+
     /// Its pass, when it is given up.
     pub fn into_pass(self) -> Pass
         ensures { result ≡ self.entry.pass }
@@ -89,8 +99,14 @@ impl<'a, G: Gate> Player for VblankTick<'a, G> {
 
     ghost took = { TickTook };
 
+    ghost looked = { TickLooked };
+
     fn turn<W: Wait>(&mut self, rt: &W, _alloc: Global) -> Result<Turn, NoMemory> {
         Ok(self.play(rt))
+    }
+
+    fn history_len(&mut self) -> u64 {
+        self.look()
     }
 }
 
@@ -99,9 +115,9 @@ fn tick<W: Wait>(device: &Device, rt: &W, pass: &mut Pass, crtc: u32) -> Turn
     requires own { pass.old.lock ≡ device.now.lock }
     ensures { TickTurn device.now.script crtc pass.old pass.new result }
 {
-    if device.vblank(rt, pass, crtc) {
+    let (did, drained) = device.vblank_or_rest(rt, pass, crtc);
+    if did {
         return Turn::Did;
     }
-    let length = pass.seen_len();
-    rest(device, rt, pass, length)
+    rest(pass.seen_len(), drained)
 }

@@ -2,8 +2,9 @@
 ghost use Rattle.std.specs.Prelude.{◌≡◌, ◌<◌, length, Some, None};
 ghost use Rattle.kms_players.specs.Players.{name_of_pass};
 ghost use Rattle.kms_players.specs.PlayerTurns.{WorkerTurn, hand_after};
-ghost use Rattle.kms_players.specs.Took.{WorkerTook};
+ghost use Rattle.kms_players.specs.Took.{WorkerLooked, WorkerTook};
 
+use crate::looking::look;
 use crate::name::Name;
 use crate::resting::rest;
 use kms_device::{Device, Pass};
@@ -84,6 +85,15 @@ impl<'a, G: Gate> Worker<'a, G> {
         turn
     }
 
+    /// How long the history is, as far as one load tells. It is no turn, and waits for nobody.
+    pub fn look(&mut self) -> u64
+        ensures looked { WorkerLooked self.old self.new result }
+        ensures name { name_of_pass self.new.pass ≡ name_of_pass self.old.pass }
+        ensures last { self.new.last ≡ self.old.last }
+    {
+        look(self.device, &mut self.pass)
+    }
+
     /// Its pass, when it is given up.
     pub fn into_pass(self) -> Pass
         ensures { result ≡ self.entry.pass }
@@ -101,8 +111,14 @@ impl<'a, G: Gate> Player for Worker<'a, G> {
 
     ghost took = { WorkerTook };
 
+    ghost looked = { WorkerLooked };
+
     fn turn<W: Wait>(&mut self, rt: &W, _alloc: Global) -> Result<Turn, NoMemory> {
         Ok(self.play(rt))
+    }
+
+    fn history_len(&mut self) -> u64 {
+        self.look()
     }
 }
 
@@ -122,12 +138,10 @@ fn claim<W: Wait>(device: &Device, rt: &W, pass: &mut Pass) -> (Turn, Option<u32
     requires own { pass.old.lock ≡ device.now.lock }
     ensures { WorkerTurn device.now.script pass.old None pass.new result.1 result.0 }
 {
-    match device.claim(rt, pass) {
+    let (claimed, drained) = device.claim_or_rest(rt, pass);
+    match claimed {
         Some(commit) => (Turn::Did, Some(commit)),
-        None => {
-            let length = pass.seen_len();
-            (rest(device, rt, pass, length), None)
-        }
+        None => (rest(pass.seen_len(), drained), None),
     }
 }
 
@@ -136,12 +150,10 @@ fn work_on<W: Wait>(device: &Device, rt: &W, pass: &mut Pass, commit: u32) -> (T
     requires own { pass.old.lock ≡ device.now.lock }
     ensures { WorkerTurn device.now.script pass.old (Some commit) pass.new result.1 result.0 }
 {
-    match device.work_on(rt, pass, commit) {
+    let (done, drained) = device.work_or_rest(rt, pass, commit);
+    match done {
         Some(step) => (Turn::Did, hand_after(Some(commit), &step)),
-        None => {
-            let length = pass.seen_len();
-            (rest(device, rt, pass, length), Some(commit))
-        }
+        None => (rest(pass.seen_len(), drained), Some(commit)),
     }
 }
 

@@ -1,5 +1,5 @@
 //! Who takes turns.
-ghost use Rattle.std.specs.Prelude.{◌≡◌, Option, Some, IfOk};
+ghost use Rattle.std.specs.Prelude.{◌≡◌, ℕ, Option, Some, IfOk};
 ghost use Rattle.kms_pool.specs.declared.player.Turn.{Turn};
 
 use kms_model::NoMemory;
@@ -34,9 +34,18 @@ pub trait Player: Drop {
     // What a turn was: who took it, as it was before and as it is afterwards, and the turn's answer.
     ghost took: { Self → Self → Turn → Type 0 };
 
+    // What a look at the history's length was: who looked, before and afterwards, and the length that was told.
+    ghost looked: { Self → Self → ℕ → Type 0 };
+
     /// One turn, which may wait for others. The player stays who it is. The only error is want of memory.
     fn turn<W: Wait>(&mut self, rt: &W, alloc: Global) -> Result<Turn, NoMemory>
         ensures name { name self.new ≡ name self.old }
         ensures answer { IfOk result (λ t. answer self.new ≡ Some t) }
         ensures took { IfOk result (λ t. took self.old self.new t) };
+
+    /// How long the history is, as far as one load tells, a count of events. It is no turn, and waits for nobody.
+    fn history_len(&mut self) -> u64
+        ensures name { name self.new ≡ name self.old }
+        ensures answer { answer self.new ≡ answer self.old }
+        ensures looked { looked self.old self.new result };
 }

@@ -50,12 +50,12 @@ fn participants_of<P: Player>(
     alloc: Global,
     players: Seq<P>,
 ) -> Result<Vec<Participant<P>>, NoMemory>
-    ensures { IfOk result (λ v. map (λ x. x.player) v.items ≡ players) }
+    ensures { IfOk result (λ v. map (λ x. x.player.value) v.items ≡ players) }
 {
     let players = players.into_vec();
     let mut participants = Vec::with_capacity(alloc, players.len())?;
     for player in players {
-        participants.push(Participant::new(player))?;
+        participants.push(Participant::new(alloc, player)?)?;
     }
     Ok(participants)
 }
@@ -65,18 +65,18 @@ fn players_of<P: Player>(
     alloc: Global,
     participants: Vec<Participant<P>>,
 ) -> Result<Seq<P>, NoMemory>
-    ensures { IfOk result (λ r. r ≡ map (λ x. x.player) participants.items) }
+    ensures { IfOk result (λ r. r ≡ map (λ x. x.player.value) participants.items) }
 {
     let mut players = Vec::with_capacity(alloc, participants.len())?;
     for participant in participants {
-        players.push(participant.player)?;
+        players.push(Box::into_inner(participant.player))?;
     }
     Ok(Seq::from_vec(players))
 }
 
 // Whether all have ended, or all that have not answered `NotYet` at one length.
 fn all_rest<P: Player>(participants: &[Participant<P>]) -> bool
-    ensures { IsTrue result → AllRest (λ x. P.answer x.player) participants.now }
+    ensures { IsTrue result → AllRest (λ x. P.answer x.player.value) participants.now }
 {
     let length = awaited_length(participants);
     participants
@@ -103,7 +103,7 @@ fn round<P: Player + Send, R: Threads + Wait + Sync>(
 ) -> Result<Vec<Participant<P>>, NoMemory>
     requires threads { (0 < threads) × (threads ≤ 16) }
     ensures { IfOk result (λ r. IsPermutation
-        (map (λ x. P.name x.player) participants.items) (map (λ x. P.name x.player) r.items)) }
+        (map (λ x. P.name x.player.value) participants.items) (map (λ x. P.name x.player.value) r.items)) }
 {
     let count = participants.len();
     let (queue, mut pass) = Queue::<P>::ruled(alloc, count.max(1))?;
@@ -125,7 +125,7 @@ fn bring_all<P: Player, W: Wait>(
     requires own { IsPassOf queue.now pass.old }
     requires whole { view pass.old ≡ hand ALL_PARTS [] [] }
     ensures own { IsSamePass pass.old pass.new }
-    ensures brought { HasBrought (λ x. P.name x.player) (view pass.new) participants.items }
+    ensures brought { HasBrought (λ x. P.name x.player.value) (view pass.new) participants.items }
 {
     for participant in participants {
         put::<P, Brings, W>(rt, queue, pass, participant);
@@ -218,7 +218,7 @@ fn take_all<P: Player, W: Wait>(
     requires own { IsPassOf queue.now pass }
     requires whole { ((view pass).parts ≡ ALL_PARTS) × ((view pass).held ≡ []) }
     ensures { IfOk result (λ v.
-        IsPermutation (view pass).brought (map (λ x. P.name x.player) v.items)) }
+        IsPermutation (view pass).brought (map (λ x. P.name x.player.value) v.items)) }
 {
     let mut participants = Vec::with_capacity(alloc, queue.capacity())?;
     for _ in rt.forever() {

@@ -20,7 +20,7 @@ impl<P: Player> Protocol<Participant<P>, Hand<P::Name>> for NoneLost {
     ghost use Rattle.std.specs.Prelude.{[]};
     ghost use Rattle.kms_pool.specs.Rules.{ALL_PARTS, hand, IsBalanced};
 
-    ghost holds = { IsBalanced (λ x. P.name x.player) };
+    ghost holds = { IsBalanced (λ x. P.name x.player.value) };
 
     ghost first = { hand ALL_PARTS [] [] };
 }
@@ -38,7 +38,7 @@ impl<P: Player> Outcome<Participant<P>, Hand<P::Name>> for Brings {
     ghost use Rattle.std.specs.Prelude.{◌≡◌, ◌∷◌};
     ghost use Rattle.kms_pool.specs.Rules.{hand};
 
-    ghost then = { λ v x w. w ≡ hand v.parts (P.name x.player ∷ v.brought) v.held };
+    ghost then = { λ v x w. w ≡ hand v.parts (P.name x.player.value ∷ v.brought) v.held };
 }
 
 /// Takes a player out of the queue.
@@ -48,13 +48,13 @@ impl<P: Player> Outcome<Participant<P>, Hand<P::Name>> for Takes {
     ghost use Rattle.std.specs.Prelude.{◌≡◌, ◌∷◌};
     ghost use Rattle.kms_pool.specs.Rules.{hand};
 
-    ghost then = { λ v x w. w ≡ hand v.parts v.brought (P.name x.player ∷ v.held) };
+    ghost then = { λ v x w. w ≡ hand v.parts v.brought (P.name x.player.value ∷ v.held) };
 }
 
 impl<P: Player> Lesson<Participant<P>, Hand<P::Name>> for Takes {
     ghost use Rattle.kms_pool.specs.Rules.{Tells};
 
-    ghost fact = { Tells (λ x. P.name x.player) };
+    ghost fact = { Tells (λ x. P.name x.player.value) };
 }
 
 /// Puts the one player that is held back.

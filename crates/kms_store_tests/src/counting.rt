@@ -13,12 +13,14 @@ use std::thread::{Threads, yield_now};
 // The number of the counter whose turns find no memory.
 const WITHOUT_MEMORY: u64 = 99;
 
-// How much all counters have counted, how many turns go on, and 2 once two went on at one time.
+// How much all counters have counted, how many turns go on, 2 once two went on at one time, and how many turns came to
+// nothing at a count at which the same counter's turn had come to nothing just before.
 #[derive(Drop)]
 struct Counted {
     sum: AtomicU64,
     going: AtomicU64,
     most: AtomicU64,
+    again: AtomicU64,
 }
 
 impl Counted {
@@ -27,6 +29,14 @@ impl Counted {
             sum: AtomicU64::new(0),
             going: AtomicU64::new(0),
             most: AtomicU64::new(0),
+            again: AtomicU64::new(0),
+        }
+    }
+
+    // Notes a turn that came to nothing: whether it did so at the same count just before.
+    fn note(&self, again: bool) {
+        if again {
+            self.again.fetch_add(1, Ordering::SeqCst);
         }
     }
 }
@@ -54,6 +64,8 @@ impl<'a> Player for Counter<'a> {
     ghost took = { λ before after turn. (after.left ≤ before.left)
         × ((turn ≡ Turn.Ended) → before.left ≡ 0) };
 
+    ghost looked = { λ before after told. after.left ≡ before.left };
+
     fn turn<W: Wait>(&mut self, _rt: &W, _alloc: Global) -> Result<Turn, NoMemory> {
         if self.number == WITHOUT_MEMORY {
             return Err(NoMemory);
@@ -61,6 +73,10 @@ impl<'a> Player for Counter<'a> {
         let turn = self.count();
         self.last = Some(turn);
         Ok(turn)
+    }
+
+    fn history_len(&mut self) -> u64 {
+        self.counted.sum.load(Ordering::SeqCst)
     }
 }
 
@@ -78,6 +94,8 @@ impl<'a> Counter<'a> {
         let turn = if self.left == 0 {
             Turn::Ended
         } else if length < self.from {
+            self.counted
+                .note(self.last == Some(Turn::NotYet { length }));
             Turn::NotYet { length }
         } else {
             self.left -= 1;
@@ -143,6 +161,8 @@ fn assert_ran(rt: &impl Abort, run: &Run<'_>, back: &[Counter<'_>], counted: &Co
         run.name,
         run.threads
     );
+    let again = counted.again.load(Ordering::SeqCst);
+    assert!(rt; again == 0, "{}: {again} turns for nothing", run.name);
     let shared = counted.most.load(Ordering::SeqCst) == 2;
     assert!(rt; shared || !run.is_shared, "{}", run.name);
 }

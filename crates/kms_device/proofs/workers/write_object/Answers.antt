@@ -1,4 +1,4 @@
-use Rattle.std.proofs.Common.{◌∙◌, ap, arith}
+use Rattle.std.proofs.Common.{◌∙◌, arith}
 use Rattle.kms_core.specs.Run.{gains}
 use Rattle.kms_device.specs.Steps.{step_if}
 use Rattle.kms_device.proofs.Tails.{few_index, may_be_written, write_is}

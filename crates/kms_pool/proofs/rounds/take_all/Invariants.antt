@@ -7,5 +7,5 @@ invariant-loop g l = record {
   own : IsPassOf l.queue l.pass;
   parts : (view l.pass).parts ≡ 32;
   brought : (view l.pass).brought ≡ (view l.fn.pass).brought;
-  held : IsPermutation (view l.pass).held (map (λ x. g.P.Player.name x.player) l.participants.items);
+  held : IsPermutation (view l.pass).held (map (λ x. g.P.Player.name x.player.value) l.participants.items);
 }

@@ -1,5 +1,4 @@
 use Rattle.std.proofs.Common.{◌≡◌, length, true, arith, rules, ap, sym, ◌∙◌}
-use Rattle.kms_core.specs.Latching.{MayBlank}
 use Rattle.kms_device.specs.Steps.{blanks_at}
 use Rattle.kms_device.proofs.Counting.{blank-keeps, blankings-few}
 use Rattle.kms_device.proofs.Legals.{blank-few, may_blank}

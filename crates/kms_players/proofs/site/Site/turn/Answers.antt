@@ -1,6 +1,6 @@
 use Rattle.kms_device.specs.Turns.{run_seen}
 use Rattle.kms_players.specs.UnderWay.{IsAttempting}
-use Rattle.kms_players.proofs.Standing.{answer_name, ok_attempt}
+use Rattle.kms_players.proofs.Standing.{ok_attempt}
 use Rattle.kms_device.proofs.Went.{went_not}
 use Rattle.kms_players.proofs.site.Site.turn.Goals as goal
 
