@@ -2,7 +2,7 @@
 use Rattle.std.proofs.Common.{◌≡◌, ℕ, List, Bool, true, false, Option, Some, None, refl, ap, sym, ◌∙◌}
 use Rattle.std.specs.Prelude.{◌==◌, not, if◌then◌else◌}
 use Rattle.std.specs.Option.{option_and_then}
-use Rattle.kms_model.specs.declared.replies.TheConstants.Denied.{NOT_FOUND, NOT_OWNER}
+use Rattle.kms_model.specs.declared.replies.TheConstants.Denied.{NOT_OWNER}
 use Rattle.kms_model.specs.declared.things.Blob.{Blob}
 use Rattle.kms_model.specs.declared.tables.Slot.{Slot}
 use Rattle.kms_model.specs.declared.worlds.Content.{Content}

@@ -1,5 +1,5 @@
 -- What is refused to a client that closes a framebuffer, by a store and by the things of a device.
-use Rattle.std.proofs.Common.{◌≡◌, ℕ, List, [], ◌∷◌, Bool, true, false, eqb, Option, Some, None, inl, inr, refl, ap, sym, ◌∙◌, subst, cond, arith}
+use Rattle.std.proofs.Common.{◌≡◌, ℕ, List, [], ◌∷◌, Bool, true, false, eqb, Option, Some, None, inl, inr, refl, ap, sym, ◌∙◌, subst}
 use Rattle.std.specs.Prelude.{◌==◌, ◌<◌, not, if◌then◌else◌}
 use Rattle.std.specs.List.{AllByRecursion, cons_option}
 use Rattle.std.specs.Option.{option_and_then}
@@ -10,13 +10,13 @@ use Rattle.kms_model.specs.declared.tables.Slot.{Slot}
 use Rattle.kms_model.specs.declared.worlds.Content.{Content}
 use Rattle.kms_model.specs.declared.worlds.Content.TheVariants as content
 use Rattle.kms_model.specs.declared.worlds.Thing.{Thing}
-use Rattle.kms_model.specs.Device.Execution.{close_refusal, is_framebuffer}
+use Rattle.kms_model.specs.Device.Execution.{close_refusal}
 use Rattle.kms_model.specs.Device.Sound.{AreNumbered}
 use Rattle.kms_model.specs.Device.World.{thing_with_id}
 use Rattle.kms_model.specs.Firsts.{denied_if}
-use Rattle.kms_model.specs.Things.Kept.{close_answer, framebuffer, is_last, may_close}
+use Rattle.kms_model.specs.Things.Kept.{close_answer, framebuffer}
 use Rattle.kms_model.specs.Things.OpenThings.{denial, value_if_open}
-use Rattle.kms_model.specs.Things.Tables.{IsRising, slot, value_with_id}
+use Rattle.kms_model.specs.Things.Tables.{IsRising, value_with_id}
 use Rattle.kms_model.proofs.OpenLemmas.{found_open}
 use Rattle.kms_model.proofs.TableLemmas.{others_behind, value-absent}
 use Rattle.kms_buffers.specs.Things.{fb_of_content, open_fbs, open_fbs_of, open_slot}

@@ -2,7 +2,7 @@
 use Rattle.std.proofs.Common.{◌≡◌, ◌∙◌, ℕ, ◌-◌, ◌<◌, ◌≤◌, Bool, true, false, List, [], ◌∷◌, None, ℤ, inl, inr, refl, sym, ap, subst, arith}
 use Rattle.std.specs.Prelude.{◌&&◌, ◌||◌, ◌==◌, not, pos, All, if◌then◌else◌}
 use Rattle.std.specs.List.{list_any}
-use Rattle.std.proofs.lemmas.Bool.{eqb-true, eq-eqb, and_parts, and_from, and_left, and_right, or_cases, or_parts, or_left, or_right, both_ways, cases_Bool, cond-true, cond-false, lt-ltb, not-false}
+use Rattle.std.proofs.lemmas.Bool.{eqb-true, and_parts, and_right, or_cases, or_parts, or_left, or_right, both_ways, cases_Bool, cond-true, cond-false, lt-ltb, not-false}
 use Rattle.kms_model.specs.declared.objects.Kind.{Kind}
 use Rattle.kms_model.specs.declared.objects.Topology.{Topology}
 use Rattle.kms_model.specs.declared.properties.TheConstants.{CRTC_ID, IN_FENCE_FD, OUT_FENCE_PTR}

@@ -28,7 +28,7 @@ impl Core {
     }
 
     /// Look-ups may grow old: a check of what a request asked for by its labels now, of states that are duplicated after
-    /// more steps, is right in some sound world, and asks for objects within the reach of the request then.
+    /// more steps, is right in some lawful world, and asks for objects within the reach of the request then.
     pub fn asks_within_its_reach(&self)
         ensures { AsksWithinItsReach self.now }
     {
@@ -36,7 +36,7 @@ impl Core {
         kms_laws::old_look_ups_ask_within_reach();
     }
 
-    /// The world is that of the device of one thread after the journal, and it is sound.
+    /// The world is that of the device of one thread after the journal, and it is lawful.
     pub fn is_serial(&self)
         ensures { HasSerialWorld self.now.script self.now.steps }
     {

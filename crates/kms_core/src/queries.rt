@@ -9,16 +9,20 @@ ghost use Rattle.kms_model.specs.Machine.Framebuffers as framebuffers;
 ghost use Rattle.kms_model.specs.Machine.Histories as told;
 ghost use Rattle.kms_model.specs.Machine.Histories.{is_at_end, is_history};
 ghost use Rattle.kms_model.specs.Machine.State.{doing_at, go_at, place_at};
+ghost use Rattle.kms_model.specs.Order.Suspending.{open_label, open_mode_label};
 ghost use Rattle.kms_model.specs.Script.WellFormed.{IsWellFormed};
 ghost use Rattle.kms_laws.specs.TailsLeft.{all_left};
 ghost use Rattle.kms_core.specs.Calls.{idle_command_at};
 ghost use Rattle.kms_core.specs.Freeing.{label_and_id};
 ghost use Rattle.kms_core.specs.Run.{machine};
 ghost use Rattle.kms_core.specs.Stands.{entry_pair};
+ghost use Rattle.kms_things.specs.Present.{IsPresent};
 
 use crate::machine::Core;
 use crate::spare::Spare;
-use kms_model::{Answered, Command, Doing, FbInfo, Image, Latch, Place, Script, Step};
+use kms_model::{
+    Answered, Command, Doing, Duplicates, FbInfo, Image, Latch, Mode, Place, Script, Step,
+};
 
 impl Core {
     /// The script.
@@ -107,6 +111,30 @@ impl Core {
         ensures { result ≡ is_at_end self.now.script (machine self.now) client }
     {
         crate::next::is_at_end(&self.stores, client)
+    }
+
+    /// The present states of all objects, old and new alike.
+    pub fn states(&self) -> Duplicates
+        ensures { IsPresent self.now.script.topology (machine self.now).device.world result }
+    {
+        self.stores.present
+    }
+
+    /// The label, by its number from 0, of the open thing with an id; none exactly where no open thing has the id. It does
+    /// not go over the things.
+    pub fn label_of(&self, id: u32) -> Option<u32>
+        ensures { result ≡ open_label (machine self.now).device.world.things id }
+    {
+        self.stores.things.label_of(id)
+    }
+
+    /// The label, by its number from 0, of the open blob of least id that decodes to a mode, all 68 bytes of it; none
+    /// exactly where there is none. A blob counts where MODE_ID would take it, so none decodes to a mode that is not
+    /// legal. It goes over the things from the first on.
+    pub fn mode_label(&self, mode: &Mode) -> Option<u32>
+        ensures { result ≡ open_mode_label (machine self.now).device.world.things mode.now }
+    {
+        self.stores.things.mode_label(mode)
     }
 
     /// For how many further steps and latches memory was taken: at least for all that the tails of commits which are not cleaned

@@ -104,7 +104,8 @@ accepted-apart t w r p none is =
     subst (λ z. IsApart (crtc_at w.values z) (crtc_at (after w r) z)) (sym o.same)
     (plane-apart info (plane_at w.things w.values (object_id Plane o.index)) (plane_at w.things (after w r) (object_id Plane o.index)) passed)
 
-module _ (t : Topology) (x : Commit) (cs : List Commit) (at : IsRequestAt t x.world x.request) (numbered : IsNumbered x.world) (none : verdict t x.world x.request ≡ None) (S : StatesStand t x.world cs)
+module _ (t : Topology) (x : Commit) (cs : List Commit) (at : IsRequestAt t x.world x.request) (numbered : IsNumbered x.world)
+    (none : verdict t x.world x.request ≡ None) (S : StatesStand t x.world cs)
     (framed : AreFramed x.world.things) (kept : AreKept x.world.things) (A : CommitsApart t cs) where
   words_crtc : (things : List Thing) (values : List Setting) (p : ℕ) → (plane_words (plane_at things values p)).crtc ≡ crtc_at values p
   unfolding plane_words
@@ -125,7 +126,8 @@ module _ (t : Topology) (x : Commit) (cs : List Commit) (at : IsRequestAt t x.wo
   on_new : (p : ℕ) → IsIn p (ids_of t Plane) → IsOnCrtc t (plane_after t (x ∷ cs) (suc (length cs)) p).crtc
   on_new p is =
       subst (IsOnCrtc t) (sym (after_crtc p))
-      (on_from t (crtc_at (new_values x) p) (plane_crtc-held t x.world.things (new_values x) p (plain-apply t x.world x.request at.sound at.early) is))
+      (on_from t (crtc_at (new_values x) p)
+      (plane_crtc-held t x.world.things (new_values x) p (plain-apply t x.world x.request at.sound at.early) is))
 
   apart_new : (p : ℕ) → IsIn p (ids_of t Plane) → IsApart (plane_after t (x ∷ cs) (length cs) p).crtc (plane_after t (x ∷ cs) (suc (length cs)) p).crtc
   apart_new p is = subst (λ z. IsApart z (plane_after t (x ∷ cs) (suc (length cs)) p).crtc) (sym (before_crtc p is)) (subst (IsApart (crtc_at x.world.values p)) (sym (after_crtc p)) (accepted-apart t x.world x.request p none is))
@@ -134,7 +136,8 @@ module _ (t : Topology) (x : Commit) (cs : List Commit) (at : IsRequestAt t x.wo
   pictured_new c is =
       let w1 : World = record x.world { values = new_values x; commits = x.world.commits + 1 } in
       (λ i. picture_in_words t (crtc_new t x cs c i) (λ p. plane_in (plane_new t x cs p i)) c)
-      ∙ words_show t w1 c (sound-apply t x.world x.request (x.world.commits + 1) (record { sound = at.sound; numbered = numbered }) none) framed kept is
+      ∙ words_show t w1 c (sound-apply t x.world x.request (x.world.commits + 1) (record { sound = at.sound; numbered = numbered }) none)
+      framed kept is
       ∙ ap (λ (z : Commit). picture t z.world.things (new_values z) c) (sym (commit_new t x cs))
 
   old_words_new : (p : ℕ) → IsIn p (ids_of t Plane) → plane_words (old_plane t (x ∷ cs) (length cs) p) ≡ plane_after t (x ∷ cs) (length cs) p

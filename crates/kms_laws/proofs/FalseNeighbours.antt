@@ -2,18 +2,22 @@
 use Rattle.std.proofs.Common.{◌≡◌, ℕ, List, [], ◌∷◌, ◌++◌, map, length, Bool, true, false, ◌&&◌, ◌||◌, not, ◌==◌, Option, Some, None, refl, codes}
 use Rattle.std.specs.Prelude.{if◌then◌else◌, nat_lt, Ok, Err, Result}
 use Rattle.std.specs.List.{list_all}
+use Rattle.std.specs.Option.{option_map}
 use Rattle.kms_model.specs.declared.objects.Kind.TheVariants.{Crtc, Plane, Conn}
 use Rattle.kms_model.specs.declared.objects.Topology.{Topology}
 use Rattle.kms_model.specs.declared.pictures.Picture.{Picture}
 use Rattle.kms_model.specs.declared.pictures.Picture.TheVariants.{Off, On}
 use Rattle.kms_model.specs.declared.replies.Step.{Step}
-use Rattle.kms_model.specs.declared.replies.Step.TheVariants.{BackOff, Claim, Lock, Swap}
+use Rattle.kms_model.specs.declared.replies.Step.TheVariants.{BackOff, Claim, Lock, Make, Swap}
+use Rattle.kms_model.specs.declared.scripts.Command.TheVariants as command
 use Rattle.kms_model.specs.declared.scripts.Part.TheVariants as part
 use Rattle.kms_model.specs.declared.scripts.Request.{Request}
 use Rattle.kms_model.specs.declared.scripts.Script.{Script}
+use Rattle.kms_model.specs.declared.worlds.Thing.{Thing}
 use Rattle.kms_model.specs.declared.replies.TheConstants.Refusal.{SWITCHES_CRTC}
 use Rattle.kms_model.specs.Device.Objects.{ids_of, object_id}
 use Rattle.kms_model.specs.Device.Serial.{show}
+use Rattle.kms_model.specs.Device.World.{thing_labelled}
 use Rattle.kms_model.specs.Machine.Commits.{commit_touches, has_number, is_claimed, waited_fences}
 use Rattle.kms_model.specs.Machine.Effects.{backed_off, next, now_doing}
 use Rattle.kms_model.specs.Machine.Histories.{at, is_history, journal, last_latched, latched}
@@ -27,7 +31,7 @@ use Rattle.kms_model.specs.Request.Verdict.{verdict}
 use Rattle.kms_model.specs.Script.InputLines.{Fault}
 use Rattle.kms_model.specs.Script.Schedules.{Parts, input_of}
 use Rattle.kms_model.proofs.OnMachines.{on_machines}
-use Rattle.kms_model.proofs.Rows.{head, head_of_two, made}
+use Rattle.kms_model.proofs.Rows.{device, head, head_of_two, made}
 
 -- what is told of a script and the steps that a text spells
 abbrev told_of : {A : Type 0} → (Script → List Step → A) → A → Result Parts Fault → A
@@ -186,3 +190,40 @@ kept_lock_has_a_cycle = refl
 pub dropped_locks_have_none : told (waits_both (λ s h. next s (at s h) (BackOff 2))) [] two_clients ≡ false ∷ true ∷ []
 unfolding on_machines
 dropped_locks_have_none = refl
+
+-- A history that was ended, of a longer script
+
+-- a commit waits for a fence that nobody signals, and the history is ended
+abbrev ended_there : List ℕ
+ended_there = head ++ made ++ codes "fence n\natomic 0x400 0 crtc0.ACTIVE=1 crtc0.MODE_ID=@m conn0.CRTC_ID=crtc0 plane0.FB_ID=@f plane0.CRTC_ID=crtc0 plane0.CRTC_W=1 plane0.CRTC_H=1 plane0.SRC_W=65536 plane0.SRC_H=65536 plane0.IN_FENCE_FD=@n\nschedule\nT make 1\nT make 1\nT make 1\nT make 1\nT begin 1\nT lock 1 crtc0\nT lock 1 plane0\nT lock 1 conn0\nT swap 1\nT stall\n"
+
+-- the script with a client more, which signals it
+abbrev with_signal : Script → Script
+with_signal s = record s { clients = s.clients ++ (command.Signal 3 ∷ []) ∷ [] }
+
+pub a_history_that_was_ended_is_one : told (λ s h. is_history s h) false ended_there ≡ true
+unfolding on_machines
+a_history_that_was_ended_is_one = refl
+
+-- The client can go on, so the history is not dead there, and the last step is not legal.
+pub it_is_none_of_a_longer_script : told (λ s h. is_history (with_signal s) h) true ended_there ≡ false
+unfolding on_machines
+it_is_none_of_a_longer_script = refl
+
+-- A label that is made twice
+
+-- two fences under one label, which no text spells
+abbrev made_twice : Script
+made_twice = record { version = 1; topology = device; names = codes "n" ∷ []; clients = (command.Fence 0 ∷ command.Fence 0 ∷ []) ∷ [] }
+
+abbrev ids_of_labels : List Thing → List (Option ℕ)
+ids_of_labels things = map (λ u. option_map (λ (v : Thing). v.id) (thing_labelled things u.label)) things
+
+-- the label of the second one names the first
+pub a_label_that_is_made_twice_names_the_first : ids_of_labels (at made_twice (Make 1 ∷ Make 1 ∷ [])).device.world.things ≡ Some 1000 ∷ Some 1000 ∷ []
+unfolding on_machines
+a_label_that_is_made_twice_names_the_first = refl
+
+pub both_are_made : is_history made_twice (Make 1 ∷ Make 1 ∷ []) ≡ true
+unfolding on_machines
+both_are_made = refl

@@ -59,7 +59,8 @@ pub record KeepsLabels (w v : World) : Type 0 where
   pub forth : (label : ℕ) (u : Thing) → thing_labelled w.things label ≡ Some u → Labelled v.things label u
   pub back : (label : ℕ) (u : Thing) → thing_labelled v.things label ≡ Some u → Labelled w.things label u ⊎ (u.content ≡ content.OutFence → ⊥)
 
-found-push : (things : List Thing) (x : Thing) (label : ℕ) (u : Thing) → thing_labelled things label ≡ Some u → thing_labelled (things ++ x ∷ []) label ≡ Some u
+pub found-push : (things : List Thing) (x : Thing) (label : ℕ) (u : Thing) → thing_labelled things label ≡ Some u
+    → thing_labelled (things ++ x ∷ []) label ≡ Some u
 found-push [] x label u e = absurd cc
 found-push (y ∷ ys) x label u e =
     elim (cases_Bool (y.label == label)) [

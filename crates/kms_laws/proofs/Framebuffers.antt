@@ -121,7 +121,8 @@ unfolding plane_words fb_word
 words_fb things values p = refl
 
 -- a plane's framebuffer after a request is what it was, or one that is open
-applied_fb : (t : Topology) (w : World) (r : Request) (p fb : ℕ) → IsRequestAt t w r → AreNumbered 1000 w.things → AreFramed w.things → 1 ≤ fb → (plane_words (plane_at w.things (after w r) p)).fb ≡ fb
+applied_fb : (t : Topology) (w : World) (r : Request) (p fb : ℕ) → IsRequestAt t w r → AreNumbered 1000 w.things → AreFramed w.things
+    → 1 ≤ fb → (plane_words (plane_at w.things (after w r) p)).fb ≡ fb
     → ((plane_words (plane_at w.things w.values p)).fb ≡ fb) ⊎ IsOpenAt w.things fb
 applied_fb t w r p fb at numbered framed some e =
     go (last_value r.assigns p FB_ID) refl (ap (fb_word w.things) (sym (value-apply w.things w.values r.assigns p FB_ID refl)) ∙ sym (words_fb w.things (after w r) p) ∙ e)
@@ -213,10 +214,15 @@ module _ (s : Script) (plain : IsPlainScript s) (fb : ℕ) where
       f = follows s x m.records.journal m.device.commits (entry_at m client) H.present is none no_test
 
       at : IsRequestAt s.topology m.device.world r
-      at = record { device = plain.device; sound = H.present.lawful.sound; early = (accepted-parts s.topology m.device.world r none).first_none }
+      at = record {
+        device = plain.device;
+        sound = H.present.lawful.sound;
+        early = (accepted-parts s.topology m.device.world r none).first_none;
+      }
 
       later : (p : ℕ) → IsIn p (ids_of s.topology Plane) → (plane_words (plane_at m.device.world.things (after m.device.world r) p)).fb ≡ fb → ⊥
-      later p i e = ⊎_elim (λ old. G.unnamed p i old) (λ o. open_at-shut m.device.world.things fb G.shut o) (applied_fb s.topology m.device.world r p fb at H.present.lawful.numbered.things H.present.framed G.some e)
+      later p i e = ⊎_elim (λ old. G.unnamed p i old) (λ o. open_at-shut m.device.world.things fb G.shut o)
+          (applied_fb s.topology m.device.world r p fb at H.present.lawful.numbered.things H.present.framed G.some e)
 
   signalled-freeing : (d : DeviceState) (ls : List Latch) (fence : ℕ) → Freeing s.topology fb d ls → Freeing s.topology fb (record d { signalled = fence ∷ d.signalled }) ls
   signalled-freeing d ls fence F = record {

@@ -147,7 +147,8 @@ module _ (s : Script) (m : Machine) (plain : IsPlainScript s) (H : Holds s m) (L
   swap_same : (client : ℕ) (r : Request) → Some client ≢ Some holder → IsSwap s.topology m client r → HasSameState s.topology m.device.world (committed s.topology m.device.world client r).world o
   swap_same client r others found =
       let w1 : World = record m.device.world { values = after m.device.world r; commits = m.device.world.commits + 1 } in
-      let at : IsRequestAt s.topology m.device.world r = record { device = plain.device; sound = H.present.lawful.sound; early = (accepted-parts s.topology m.device.world r found.accepted).first_none } in
+      let e = (accepted-parts s.topology m.device.world r found.accepted).first_none in
+      let at : IsRequestAt s.topology m.device.world r = record { device = plain.device; sound = H.present.lawful.sound; early = e } in
       let follows = follows-out_fences s.topology client r.assigns w1 (ids_of s.topology Crtc) (sound-apply s.topology m.device.world r (m.device.world.commits + 1) H.present.lawful found.accepted) H.present.kept in
       same_trans s.topology m.device.world w1 (committed s.topology m.device.world client r).world o
       (untouched_same s.topology m.device.world r at o is_there (not_touched client r others found.held) (m.device.world.commits + 1))

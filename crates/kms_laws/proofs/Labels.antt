@@ -31,7 +31,7 @@ use Rattle.kms_model.proofs.LastLemmas.{SetBy, set_by}
 use Rattle.kms_laws.proofs.Closed.{closed_labelled}
 use Rattle.kms_laws.specs.Once.{is_new, makes}
 
-new_is : (v : Value) (label : ℕ) → new_label (Some v) ≡ Some label → is_new v label ≡ true
+pub new_is : (v : Value) (label : ℕ) → new_label (Some v) ≡ Some label → is_new v label ≡ true
 new_is (value.New l) label is = (let same : l ≡ label = cc in eq-eqb l label same)
 new_is (value.Num z) label is = absurd cc
 new_is (value.Named l) label is = absurd cc
@@ -48,7 +48,8 @@ asks_made assigns crtc label asks = go (last_value assigns crtc OUT_FENCE_PTR) r
 
 -- Things
 
-absent_push : (things : List Thing) (x : Thing) (label : ℕ) → (x.label == label) ≡ false → thing_labelled things label ≡ None → thing_labelled (things ++ x ∷ []) label ≡ None
+pub absent_push : (things : List Thing) (x : Thing) (label : ℕ) → (x.label == label) ≡ false → thing_labelled things label ≡ None
+    → thing_labelled (things ++ x ∷ []) label ≡ None
 absent_push [] x label other none = rw other refl
 absent_push (y ∷ ys) x label other none =
     elim (cases_Bool (y.label == label)) [

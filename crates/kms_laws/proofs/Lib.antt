@@ -69,3 +69,8 @@ pub mod Composed
 pub mod FramesShown
 pub mod FramesStay
 pub mod ReadEvents
+pub mod LongerScripts
+pub mod FinishedOnce
+pub mod OwnLabels
+pub mod MadeApart
+pub mod NamedLabels

@@ -89,7 +89,7 @@ pub then_if : {A B : Type 0} (o : Option A) (f : A → Option B) (Q : A → Type
 then_if None f Q P first each = tt
 then_if (Some x) f Q P first each = each x first
 
-map_if : {A B : Type 0} (o : Option A) (f : A → B) (P : B → Type 0) → ((x : A) → P (f x)) → IfRead (option_map f o) P
+pub map_if : {A B : Type 0} (o : Option A) (f : A → B) (P : B → Type 0) → ((x : A) → P (f x)) → IfRead (option_map f o) P
 map_if None f P each = tt
 map_if (Some x) f P each = each x
 
@@ -164,20 +164,20 @@ value_makes names word =
     (or_if _ (strip (codes "crtc") word) _ (ValueMakes names) (λ digits. map_if (dec 255 digits) _ (ValueMakes names) (λ i. kept names))
     (map_if (int word) _ (ValueMakes names) (λ z. kept names))))
 
-abbrev AssignMakes : Names → Assign × Names → Type 0
+abbrev pub AssignMakes : Names → Assign × Names → Type 0
 AssignMakes names a = Marks names (is_new a.0.value) a.1
 
-assign_makes : (names : Names) (word : List ℕ) → IfRead (assign_read names word) (AssignMakes names)
+pub assign_makes : (names : Names) (word : List ℕ) → IfRead (assign_read names word) (AssignMakes names)
 unfolding assign_read
 assign_makes names word =
     bind_if (assign_words word) _ (AssignMakes names) (λ w.
     then_if (value_read ((property_read names w.2).1) w.3) _ (ValueMakes (property_read names w.2).1) (AssignMakes names) (value_makes (property_read names w.2).1 w.3) (λ v marks.
     after_kept names (property_read names w.2).1 v.1 (is_new v.0) (property_kept names w.2) marks))
 
-abbrev AssignsMake : Names → List Assign × Names → Type 0
+abbrev pub AssignsMake : Names → List Assign × Names → Type 0
 AssignsMake names r = Marks names (λ k. list_any (λ a. is_new a.value k) r.0) r.1
 
-assigns_make : (ws : List (List ℕ)) (names : Names) → IfRead (assigns_read names ws) (AssignsMake names)
+pub assigns_make : (ws : List (List ℕ)) (names : Names) → IfRead (assigns_read names ws) (AssignsMake names)
 assigns_make [] names = kept names
 assigns_make (w ∷ ws) names =
     then_if (assign_read names w) _ (AssignMakes names) (AssignsMake names) (assign_makes names w) (λ a first.

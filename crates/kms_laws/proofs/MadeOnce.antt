@@ -1,5 +1,5 @@
 -- The commands of a script make each label once.
-use Rattle.std.proofs.Common.{◌≡◌, ◌≤◌, ℕ, zero, suc, ◌+◌, Bool, true, false, not, cond, List, [], ◌∷◌, ◌++◌, Option, Some, None, inl, inr, refl, sym, ap, ◌∙◌, arith}
+use Rattle.std.proofs.Common.{◌≡◌, ◌≤◌, ℕ, zero, suc, ◌+◌, Bool, true, false, not, cond, List, [], ◌∷◌, ◌++◌, Option, Some, None, inl, inr, ◌⊎◌, refl, sym, ap, ◌∙◌, subst, arith}
 use Rattle.std.specs.Prelude.{◌==◌, ◌||◌, ◌&&◌, ⊤, codes, length, nat_le, nat_lt, option_map, Ok, Err}
 use Rattle.std.specs.List.{list_all, slice_get}
 use Rattle.std.specs.Str.{bytes_eq}
@@ -15,7 +15,10 @@ use Rattle.kms_model.specs.Script.Spelling.{lined, spelt_line, spelt_lines}
 use Rattle.kms_model.specs.Script.WellFormed.{IsWellFormed}
 use Rattle.kms_model.specs.Script.WholeInput.{Draft, Lined, blank_draft, client_line, clients_in, clients_of, command_line, conn_at, conn_line, crtcs_at, crtcs_line, first_line, is_nil, later_line, plane_fields, plane_line, script_in, script_line, version_read}
 use Rattle.kms_model.specs.Script.Words.{◌>>=◌, end_at, from, until}
+use Rattle.kms_model.proofs.Items.{IsIn}
 use Rattle.kms_laws.specs.Once.{makes}
+use Rattle.kms_laws.proofs.Basics.{in_either, in_left, in_right}
+use Rattle.kms_laws.proofs.MadeApart.{Apart, MakesApart, both_if, command_apart}
 use Rattle.kms_laws.proofs.MadeCommands.{IfRead, Makes, command_makes, cond_if, then_if}
 use Rattle.kms_laws.proofs.MadeNames.{is_made_at}
 
@@ -64,14 +67,21 @@ times label commands = sum_by (λ c. one_if (makes c label)) commands
 abbrev pub times_in : ℕ → List (List Command) → ℕ
 times_in label clients = sum_by (times label) clients
 
+-- each command of each client makes a label by one assignment at most
+abbrev AllApart : List (List Command) → Type 0
+AllApart clients = (commands : List Command) (c : Command) → IsIn commands clients → IsIn c commands → MakesApart c
+
 -- the commands so far make each label once, and those that the names say
 record Once (d : Draft) : Type 0 where
   once : d.names.is_twice ≡ false
   counted : (k : ℕ) → times_in k (clients_in d) ≡ one_if (is_made_at d.names.all k)
+  -- and each command does so by itself
+  apart : AllApart (clients_in d)
 
 -- the same names and commands
 keeps : (d e : Draft) → e.names ≡ d.names → clients_in e ≡ clients_in d → Once d → Once e
-keeps d e names clients is = record { once = rw names is.once; counted = λ k. rw (clients, names) (is.counted k) }
+keeps d e names clients is = record
+    { once = rw names is.once; counted = λ k. rw (clients, names) (is.counted k); apart = subst AllApart (sym clients) is.apart }
 
 -- Lines
 
@@ -101,7 +111,8 @@ not_false false e = absurd (false≢true (sym e))
 
 first_once : (d : Draft) (text : List ℕ) → Once d → IfLine (first_line d text) Once
 unfolding first_line
-first_once d text is = form_if (version_read text) _ _ Once (any_read (version_read text)) (λ version u. record { once = is.once; counted = is.counted })
+first_once d text is = form_if (version_read text) _ _ Once (any_read (version_read text))
+    (λ version u. record { once = is.once; counted = is.counted; apart = is.apart })
 
 crtcs_once : (d : Draft) (text : List ℕ) → Once d → IfLine (crtcs_line d text) Once
 unfolding crtcs_line
@@ -129,8 +140,16 @@ client_once d fields is =
     unless_if (nat_le 16 (length (clients_in d))) _ _ Once (λ f. record {
       once = is.once;
       counted = λ k. sum_last (times k) (clients_in d) [] ∙ plus_none (times_in k (clients_in d)) ∙ is.counted k;
+      apart = λ commands c member has. no_more commands c (in_either (clients_in d) ([] ∷ []) commands member) has
+          (λ old. is.apart commands c old has);
     })))
   where
+    no_more : (commands : List Command) (c : Command) {X : Type 0} → IsIn commands (clients_in d) ⊎ IsIn commands ([] ∷ [])
+        → IsIn c commands → (IsIn commands (clients_in d) → X) → X
+    no_more commands c (inl old) has more = more old
+    no_more commands c (inr (inl same)) has more = absurd (subst (IsIn c) (sym same) has)
+    no_more commands c (inr (inr never)) has more = absurd never
+
     plus_none : (n : ℕ) → n + 0 ≡ n
     plus_none n = omega arith
 
@@ -148,9 +167,28 @@ plus_made true false free = refl
 plus_made false true free = refl
 plus_made false false free = refl
 
-grows : (d : Draft) (r : Command × Names) → Once d → d.has_client ≡ true → Makes d.names r → r.1.is_twice ≡ false → Once (record d { names = r.1; commands = d.commands ++ r.0 ∷ [] })
-grows d r is has marks once = record {
+-- who has one more command
+apart_grown : (clients : List (List Command)) (commands : List Command) (c : Command) → AllApart (clients ++ commands ∷ []) → MakesApart c
+    → AllApart (clients ++ (commands ++ c ∷ []) ∷ [])
+apart_grown clients commands c all own other e member has = by (in_either clients ((commands ++ c ∷ []) ∷ []) other member)
+  where
+    at_end : IsIn e commands ⊎ IsIn e (c ∷ []) → MakesApart e
+    at_end (inl old) = all commands e (in_right clients (commands ∷ []) commands (inl refl)) old
+    at_end (inr (inl same)) = subst MakesApart same own
+    at_end (inr (inr never)) = absurd never
+
+    by : IsIn other clients ⊎ IsIn other ((commands ++ c ∷ []) ∷ []) → MakesApart e
+    by (inl old) = all other e (in_left clients (commands ∷ []) other old) has
+    by (inr (inl same)) = at_end (in_either commands (c ∷ []) e (subst (IsIn e) (sym same) has))
+    by (inr (inr never)) = absurd never
+
+grows : (d : Draft) (r : Command × Names) → Once d → d.has_client ≡ true → Makes d.names r → r.1.is_twice ≡ false → MakesApart r.0
+    → Once (record d { names = r.1; commands = d.commands ++ r.0 ∷ [] })
+grows d r is has marks once apart = record {
   once = once;
+  apart =
+      (let was : AllApart (d.clients ++ clients_of d.has_client d.commands) = is.apart in
+      rw has (apart_grown d.clients d.commands r.0 (rw has at was) apart));
   counted = λ k.
       let counted : times_in k (d.clients ++ clients_of d.has_client d.commands) ≡ one_if (is_made_at d.names.all k) = is.counted k in
       rw (has, marks.was k) (sum_grown k d.clients d.commands r.0 ∙ ap (λ n. n + one_if (makes r.0 k)) (rw has at counted) ∙ plus_made (is_made_at d.names.all k) (makes r.0 k) (marks.free once k));
@@ -159,11 +197,12 @@ grows d r is has marks once = record {
 command_once : (d : Draft) (text : List ℕ) → Once d → IfLine (command_line d text) Once
 unfolding command_line
 command_once d text is =
-    form_if (command_read d.names text) _ (Makes d.names) Once (command_makes d.names text) (λ c marks.
+    form_if (command_read d.names text) _ (λ r. Makes d.names r × Apart r) Once
+    (both_if (command_read d.names text) (Makes d.names) Apart (command_makes d.names text) (command_apart d.names text)) (λ c made.
     unless_if (not d.has_client) _ _ Once (λ has.
     unless_if c.1.is_twice _ _ Once (λ once.
     unless_if (is_over c.0 || (nat_le 4096 (length d.commands) || nat_lt 4096 c.1.made)) _ _ Once (λ f.
-    grows d c is (not_false d.has_client has) marks once))))
+    grows d c is (not_false d.has_client has) made.0 once (made.1 once)))))
 
 later_once : (d : Draft) (text : List ℕ) → Once d → IfLine (later_line d text) Once
 unfolding later_line
@@ -195,12 +234,17 @@ drafted : (o : Option Draft) (s : Script) → IfRead o Once → option_map scrip
 drafted None s is e k = absurd cc
 drafted (Some d) s is e k = (let same : script_in d ≡ s = cc in rw (← same, is.counted k) (at_most (is_made_at d.names.all k)))
 
+all_once : (s : Script) (formed : IsWellFormed s) → IfRead (spelt_lines blank_draft (rows_of formed.bytes)) Once
+all_once s formed = lines_once (rows_of formed.bytes) blank_draft
+    (record { once = refl; counted = none; apart = λ commands c member has. absurd member })
+  where
+    none : (k : ℕ) → times_in k (clients_in blank_draft) ≡ one_if (is_made_at blank_draft.names.all k)
+    none zero = refl
+    none (suc k) = refl
+
 -- the commands of the clients of a well-formed script make a label at most once
 once_in : (s : Script) → IsWellFormed s → (k : ℕ) → times_in k s.clients ≤ 1
-once_in s formed k = drafted (spelt_lines blank_draft (rows_of formed.bytes)) s (lines_once (rows_of formed.bytes) blank_draft (record { once = refl; counted = none })) formed.spells k where
-  none : (k : ℕ) → times_in k (clients_in blank_draft) ≡ one_if (is_made_at blank_draft.names.all k)
-  none zero = refl
-  none (suc k) = refl
+once_in s formed k = drafted (spelt_lines blank_draft (rows_of formed.bytes)) s (all_once s formed) formed.spells k
 
 -- where a command of a client stands
 record StandsAt (s : Script) (e : Entry) (c : Command) : Type 0 where
@@ -252,3 +296,19 @@ made_once s e f c d label formed first second made_first made_second =
 
     one : {b : Bool} → b ≡ true → 1 ≤ one_if b
     one e = rw e (omega arith)
+
+-- a command of a well-formed script makes each label by one assignment at most
+drafted_apart : (o : Option Draft) (s : Script) → IfRead o Once → option_map script_in o ≡ Some s → AllApart s.clients
+drafted_apart None s is e = absurd cc
+drafted_apart (Some d) s is e = (let same : script_in d ≡ s = cc in subst (λ (x : Script). AllApart x.clients) same is.apart)
+
+pub made_apart : (s : Script) (e : Entry) (c : Command) → IsWellFormed s → command_of s e ≡ Some c → MakesApart c
+made_apart s e c formed found =
+    let at = stands_at s e c found in
+    drafted_apart (spelt_lines blank_draft (rows_of formed.bytes)) s (all_once s formed) formed.spells at.commands c
+    (item_in s.clients at.client at.commands at.row) (item_in at.commands at.place c at.item)
+  where
+    item_in : {A : Type 0} (xs : List A) (i : ℕ) (x : A) → slice_get xs i ≡ Some x → IsIn x xs
+    item_in [] i x is = absurd cc
+    item_in (y ∷ ys) zero x is = inl cc
+    item_in (y ∷ ys) (suc i) x is = inr (item_in ys i x is)

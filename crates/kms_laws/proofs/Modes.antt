@@ -150,7 +150,8 @@ from_one-in xs zero x e = absurd cc
 from_one-in xs (suc n) x e = slice_get-in xs n x e
 
 -- a command of a well-formed script is one that words spell
-command-spelt : (s : Script) (e : Entry) (c : Command) → list_all (list_all (is_command_in s.topology.profile s.names)) s.clients ≡ true → command_of s e ≡ Some c → is_command_in s.topology.profile s.names c ≡ true
+pub command-spelt : (s : Script) (e : Entry) (c : Command) → list_all (list_all (is_command_in s.topology.profile s.names)) s.clients ≡ true
+    → command_of s e ≡ Some c → is_command_in s.topology.profile s.names c ≡ true
 command-spelt s e c all is = go (from_one s.clients e.client) refl is
   where
     go : (o : Option (List Command)) → from_one s.clients e.client ≡ o → option_and_then (λ commands. from_one commands e.command) o ≡ Some c → is_command_in s.topology.profile s.names c ≡ true

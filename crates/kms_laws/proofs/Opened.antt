@@ -88,7 +88,9 @@ sound-open t w sound =
     record {
       held = are_held-kept t w.things (map opened w.things) w.values w.values
           (λ object p row held. held-seen t w.things (map opened w.things) p.id p.range (world.value w.values object p.id) (seen-open w.things (world.value w.values object p.id)) held) sound.held;
-      accepted = verdict-empty t (all_open w) (sym (late-seen t w.things (map opened w.things) w.values w.values empty_request alike alike (plain_held-from t w.things w.values sound.held)) ∙ late-empty t w sound.accepted);
+      accepted = verdict-empty t (all_open w)
+          (sym (late-seen t w.things (map opened w.things) w.values w.values empty_request alike alike
+          (plain_held-from t w.things w.values sound.held)) ∙ late-empty t w sound.accepted);
     }
 
 pub all_numbered-open : (w : World) → IsNumbered w → IsNumbered (all_open w)

@@ -61,7 +61,8 @@ pub record Present (s : Script) (w : World) (journal : List Entry) (cs : List Co
 
 -- One entry more
 
-pub show_from-append : (s : Script) (c : ℕ) (w : World) (es fs : List Entry) → show_from s c w (es ++ fs) ≡ show_from s c w es ++ show_from s c (serial_from s w es) fs
+pub show_from-append : (s : Script) (c : ℕ) (w : World) (es fs : List Entry)
+    → show_from s c w (es ++ fs) ≡ show_from s c w es ++ show_from s c (serial_from s w es) fs
 unfolding show_from serial_from
 show_from-append s c w [] fs = refl
 show_from-append s c w (x ∷ es) fs =
@@ -69,7 +70,8 @@ show_from-append s c w (x ∷ es) fs =
     ap (λ z. shown_in s.topology c w x.client (command_of s x) ++ z) (show_from-append s c v es fs)
     ∙ sym (append_assoc (shown_in s.topology c w x.client (command_of s x)) (show_from s c v es) (show_from s c (serial_from s v es) fs))
 
-show_from-push : (s : Script) (c : ℕ) (w : World) (es : List Entry) (e : Entry) → show_from s c w (es ++ e ∷ []) ≡ show_from s c w es ++ shown_in s.topology c (serial_from s w es) e.client (command_of s e)
+show_from-push : (s : Script) (c : ℕ) (w : World) (es : List Entry) (e : Entry)
+    → show_from s c w (es ++ e ∷ []) ≡ show_from s c w es ++ shown_in s.topology c (serial_from s w es) e.client (command_of s e)
 unfolding show_from
 show_from-push s c w es e =
     show_from-append s c w es (e ∷ [])
@@ -223,7 +225,8 @@ module _ (s : Script) (x : Commit) (journal : List Entry) (cs : List Commit) (e 
   executed-is = committed-executed s.topology x.world e.client x.request none no_test
 
   new_lawful : IsLawful s.topology v
-  new_lawful = subst (λ (z : Executed). IsLawful s.topology z.world) executed-is (execution_keeps_lawful s.topology x.world e.client (command.Atomic x.request) P.lawful)
+  new_lawful = subst (λ (z : Executed). IsLawful s.topology z.world) executed-is
+      (execution_keeps_lawful s.topology x.world e.client (command.Atomic x.request) P.lawful)
 
   new_framed : AreFramed v.things
   new_framed = subst (λ (z : Executed). AreFramed z.world.things) executed-is (execution_keeps_framed s.topology x.world e.client (command.Atomic x.request) P.lawful.numbered.things P.framed)

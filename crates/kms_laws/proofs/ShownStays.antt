@@ -1,5 +1,5 @@
 -- What a CRTC showed has the same frame over the things of each later moment.
-use Rattle.std.proofs.Common.{◌≡◌, ℕ, List, [], ◌∷◌, ◌++◌, sym, subst}
+use Rattle.std.proofs.Common.{◌≡◌, List, [], ◌∷◌, ◌++◌, sym, subst}
 use Rattle.std.specs.List.{AllByRecursion}
 use Rattle.kms_model.specs.declared.worlds.Thing.{Thing}
 use Rattle.kms_model.specs.Device.Serial.{Pictured, serial, serial_from, show, show_from}
@@ -11,7 +11,8 @@ use Rattle.kms_laws.specs.Told.{FramesStay}
 use Rattle.kms_laws.proofs.Composed.{CanEach, show-can}
 use Rattle.kms_laws.proofs.Present.{show_from-append}
 
-frames-front : (things : List Thing) (ps qs : List Pictured) → CanEach things (ps ++ qs) → AllByRecursion (λ p. frame_bytes things p.picture ≡ p.frame) ps
+frames-front : (things : List Thing) (ps qs : List Pictured) → CanEach things (ps ++ qs)
+    → AllByRecursion (λ p. frame_bytes things p.picture ≡ p.frame) ps
 frames-front things [] qs can = tt
 frames-front things (p ∷ ps) qs can = (sym can.0.frame, frames-front things ps qs can.1)
 
@@ -22,4 +23,5 @@ frames-stay s entries later crtc device =
     show-can s crtc (start s.topology) (entries ++ later) (record { lawful = start_is_lawful s.topology device; framed = tt }) in
     let behind = show_from s crtc (serial_from s (start s.topology) entries) later in
     all-from_recursion (λ p. frame_bytes things p.picture ≡ p.frame) (show s entries crtc)
-    (frames-front things (show s entries crtc) behind (subst (CanEach things) (show_from-append s crtc (start s.topology) entries later) can))
+    (frames-front things (show s entries crtc) behind
+    (subst (CanEach things) (show_from-append s crtc (start s.topology) entries later) can))

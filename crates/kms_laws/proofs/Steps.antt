@@ -1,8 +1,8 @@
 -- Each step of a history keeps what holds of the machine.
-use Rattle.std.proofs.Common.{⊎_elim, ◌≡◌, ℕ, ◌+◌, List, [], ◌∷◌, ◌++◌, length, Bool, true, false, not, ◌&&◌, ◌||◌, Option, Some, None, refl, sym, ap, ◌∙◌, subst, arith, inl, inr, length-append}
-use Rattle.std.specs.Prelude.{find, if◌then◌else◌, is_none, is_some, nat_lt, reverse}
+use Rattle.std.proofs.Common.{⊎_elim, ◌≡◌, ℕ, ◌+◌, List, [], ◌∷◌, ◌++◌, length, Bool, true, false, not, ◌&&◌, ◌||◌, Option, Some, None, refl, sym, ap, ◌∙◌, subst, arith, length-append}
+use Rattle.std.specs.Prelude.{if◌then◌else◌, is_none, is_some, nat_lt, reverse}
 use Rattle.std.specs.List.{AllByRecursion}
-use Rattle.std.proofs.lemmas.Bool.{and_parts, cases_Bool, cond-false, cond-true, eqb-true, false_from_ne_true, false≢true, ltb-true, not-true, or_cases}
+use Rattle.std.proofs.lemmas.Bool.{and_parts, eqb-true, false_from_ne_true, false≢true, ltb-true, not-true, or_cases}
 use Rattle.std.proofs.lemmas.List.{length-reverse, take-append-le, take_all}
 use Rattle.kms_model.specs.declared.objects.Kind.{Kind}
 use Rattle.kms_model.specs.declared.objects.Kind.TheVariants.{Crtc, Plane, Conn, Enc}
@@ -286,7 +286,9 @@ swap_kept s m client plain H h = go (request_at s m client) refl
 
         now : Inv s (committed s.topology m.device.world client r).world (x ∷ m.device.commits) m.device.marks m.device.shadow m.device.go m.records.latches (entry_at m client ∷ m.records.journal) answered.records.replies
         now =
-            let at : IsRequestAt s.topology m.device.world r = record { device = plain.device; sound = H.present.lawful.sound; early = (accepted-parts s.topology m.device.world r none).first_none } in
+            let e = (accepted-parts s.topology m.device.world r none).first_none in
+            let at : IsRequestAt s.topology m.device.world r =
+            record { device = plain.device; sound = H.present.lawful.sound; early = e } in
             let A = answers_kept s m client (reply.Commit (length m.device.commits)) H (subst (IsVerdict s m.device.world (reply.Commit (length m.device.commits))) (sym is) (none, sym H.present.count)) in
             record {
               tail = swap_tail H.tail x (commits_more s.topology x m.device.commits at H.present.states H.tail.commits);

@@ -289,10 +289,12 @@ pub whole_kept : (s : Script) → IsPlainScript s → IsKept s (Whole s.topology
 whole_kept s plain = record {
   made = λ m client c H is other L. record { apart = L.apart; near = L.near; steady = L.steady; told = L.told };
   swapped = λ m client r H is none no_test L.
-      let at : IsRequestAt s.topology m.device.world r = record { device = plain.device; sound = H.present.lawful.sound; early = (accepted-parts s.topology m.device.world r none).first_none } in
+      let e = (accepted-parts s.topology m.device.world r none).first_none in
+      let at : IsRequestAt s.topology m.device.world r = record { device = plain.device; sound = H.present.lawful.sound; early = e } in
       let x : Commit = commit_of m client r in
       record {
-        apart = apart_more s.topology x m.device.commits at H.present.lawful.numbered none H.present.states H.present.framed H.present.kept L.apart;
+        apart = apart_more s.topology x m.device.commits at H.present.lawful.numbered none H.present.states
+            H.present.framed H.present.kept L.apart;
         near = λ p i. near_longer s.topology x m.device.commits m.device.marks.written m.records.latches _ _ p (L.near p i);
         steady = L.steady;
         told = told_longer s.topology x m.device.commits m.records.latches L.told;

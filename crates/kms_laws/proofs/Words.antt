@@ -99,7 +99,8 @@ state_back s range known = (λ i. plane_with (fb_back s.fb known i) (signed_back
 
 pub plane_back : (t : Topology) (w : World) (p : ℕ) → IsLawful t w → AreFramed w.things → IsIn p (ids_of t Plane) → plane_in (plane_words (plane_at w.things w.values p)) ≡ plane_at w.things w.values p
 plane_back t w p lawful framed is =
-    state_back (plane_at w.things w.values p) (plane_in_range t w.things w.values p (plain_held-from t w.things w.values lawful.sound.held) is)
+    state_back (plane_at w.things w.values p)
+    (plane_in_range t w.things w.values p (plain_held-from t w.things w.values lawful.sound.held) is)
     (λ f e. fb_some w.things (value w.values p FB_ID) f lawful.numbered.things framed e)
 
 -- Modes and gamma tables

@@ -54,6 +54,11 @@ FinishedIsOver = InEachHistory (λ s h. (finished : List Step) → IsFinished s 
 abbrev pub OneIsOver : Type 0
 OneIsOver = (s : Script) (h : List Step) → IsWellFormed s → IsOne s h → (is_history s h ≡ true) × IsOver s h
 
+-- There is only one that continues a history to its end: so one history that one thread makes of a script, and how that ended is a
+-- fact about the script.
+abbrev pub FinishedIsOne : Type 0
+FinishedIsOne = (s : Script) (h finished other : List Step) → IsFinished s h finished → IsFinished s h other → finished ≡ other
+
 -- No history of a generated script is dead.
 abbrev pub GeneratedNeverDead : Type 0
 GeneratedNeverDead = (seed n : ℕ) (h : List Step) → is_history (generated seed n) h ≡ true → is_dead (generated seed n) (at (generated seed n) h) ≡ false

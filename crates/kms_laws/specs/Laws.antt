@@ -86,7 +86,7 @@ pub record ContextsStand (s : Script) (m : Machine) : Type 0 where
 
 -- Look-ups that grew old
 
--- What a request asks for, and duplicates: there is a sound world that both are of. So what a check of them answers is right
+-- What a request asks for, and duplicates: there is a lawful world that both are of. So what a check of them answers is right
 -- there; and all that the request touches there is in its reach in the present world.
 pub record AsksWithinReach (t : Topology) (now : World) (r : Request) (resolved : Resolved) (d : Duplicates) : Type 0 where
   pub world : World

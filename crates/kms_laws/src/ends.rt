@@ -1,5 +1,6 @@
 //! How the order of one thread ends.
 ghost use Rattle.kms_laws.specs.Ends.{
+  FinishedIsOne,
   FinishedIsOver,
   GeneratedDrains,
   GeneratedNeverDead,
@@ -29,6 +30,11 @@ pub fn rounds_end()
 /// dead.
 pub fn finished_histories_are_over()
     ensures { FinishedIsOver }
+{}
+
+/// A history is continued to its end in one way alone; so there is one history that one thread makes of a script.
+pub fn histories_are_finished_once()
+    ensures { FinishedIsOne }
 {}
 
 /// The history that one thread makes of a script is a history of the script, and it is drained or dead.

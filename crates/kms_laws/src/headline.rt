@@ -17,7 +17,7 @@ pub fn all_is_shown_once_cleaned()
     ensures { AllShownOnceCleaned }
 {}
 
-/// The world of the machine is that of the device of one thread after the journal, and that device is sound.
+/// The world of the machine is that of the device of one thread after the journal, and that device is lawful.
 pub fn world_is_serial()
     ensures { InEachHistory HasSerialWorld }
 {}

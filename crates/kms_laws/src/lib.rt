@@ -7,6 +7,7 @@ mod bounds;
 mod ends;
 mod headline;
 mod locks;
+mod longer;
 mod once;
 mod shown;
 
@@ -16,7 +17,8 @@ pub use bounds::{
 };
 pub use ends::{
     finished_histories_are_over, generated_scripts_drain, generated_scripts_never_stall,
-    histories_have_few_moves, one_is_over, rounds_are_still_at_ends, rounds_end,
+    histories_are_finished_once, histories_have_few_moves, one_is_over, rounds_are_still_at_ends,
+    rounds_end,
 };
 pub use headline::{
     all_is_shown_once_cleaned, dead_histories_name_a_fence, events_come_once,
@@ -27,7 +29,8 @@ pub use locks::{
     busy_has_its_cause, contexts_stand, held_objects_are_framed, old_look_ups_ask_within_reach,
     tests_change_nothing, waits_have_no_cycle,
 };
-pub use once::labels_are_made_once;
+pub use longer::histories_stay;
+pub use once::{labels_are_made_once, things_have_their_labels};
 pub use shown::{
     answers_follow_commands, events_read_are_replies, shown_frames_stay,
     what_was_latched_can_be_composed,

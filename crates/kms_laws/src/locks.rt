@@ -28,7 +28,7 @@ pub fn held_objects_are_framed()
 {}
 
 /// Look-ups may be older than the states that are checked with them: a check of what a request asked for with what its
-/// labels named earlier in the history answers what is right in some sound world, and all that the request touches in
+/// labels named earlier in the history answers what is right in some lawful world, and all that the request touches in
 /// that world is in the reach of the request now. So the objects that the check still asks for are in
 /// its reach.
 pub fn old_look_ups_ask_within_reach()

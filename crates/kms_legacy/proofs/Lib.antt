@@ -1,7 +1,6 @@
 pub mod AloneLines
 pub mod CallsRead
 pub mod ClientLine
-pub mod CommandWords
 pub mod CrtcCalls
 pub mod DeviceFront
 pub mod EarlyLines
@@ -14,6 +13,8 @@ pub mod LinesOn
 pub mod NewText
 pub mod Numbers
 pub mod OneCall
+pub mod OneClient
+pub mod OneTranslated
 pub mod OrderedLayers
 pub mod ParsedWell
 pub mod PlaneCalls

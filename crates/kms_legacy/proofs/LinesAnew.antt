@@ -21,7 +21,7 @@ use Rattle.kms_script.proofs.NamesBegin.{Begins}
 use Rattle.kms_script.proofs.RequestsBack.{request_text}
 use Rattle.kms_script.proofs.SpeltCommands.{command_spelt}
 use Rattle.kms_legacy.specs.Translating.{IsReadAnew}
-use Rattle.kms_legacy.proofs.CommandWords.{AreWords, IsSpaced, command_spaced, has_keyword, line_short, room}
+use Rattle.kms_script.proofs.CommandWords.{AreWords, IsSpaced, command_spaced, has_keyword, line_short, room}
 
 pub text_same : (old : List (List ℕ)) (c : Command) (text other : List ℕ) → IsLineOf old c text → IsLineOf old c other → text ≡ other
 text_same old c text other one two = append_cancel_right text other (10 ∷ []) (one ∙ sym two)

@@ -21,7 +21,7 @@ use Rattle.kms_model.specs.Device.World.{thing_labelled}
 use Rattle.kms_model.specs.Legacy.Translated.{AreTranslated, SaysNext, SaysSame, after_line, fb_of_call, look_anew, meant, mode_of_call, translated}
 use Rattle.kms_model.specs.Request.Lookups.{look_of, look_up}
 use Rattle.kms_model.specs.Request.Sets.{fb_of_look, mode_of_look}
-use Rattle.kms_model.specs.Script.CommandLines.{Name, Names, words_in}
+use Rattle.kms_model.specs.Script.CommandLines.{Name, Names, command_read, words_in}
 use Rattle.kms_model.specs.Script.Spelling.{name_word}
 use Rattle.kms_script.proofs.NamesBegin.{Begins}
 use Rattle.kms_script.proofs.SpeltCommands.{names_begin}
@@ -32,7 +32,7 @@ use Rattle.kms_model.specs.Script.WellFormed.{IsFitCommand}
 use Rattle.kms_script.proofs.FitCommands.{command_fit}
 use Rattle.kms_script.proofs.SpeltCommands.{command_spelt}
 use Rattle.kms_legacy.specs.declared.script.Going.{Going}
-use Rattle.kms_legacy.proofs.CommandWords.{AreWords, IsSpaced, command_spaced, has_keyword, one_line}
+use Rattle.kms_script.proofs.CommandWords.{AreWords, IsSpaced, command_spaced, has_keyword, one_line}
 use Rattle.kms_legacy.proofs.LabelsBelow.{AreBelow, below_wider, execute_below}
 use Rattle.kms_legacy.specs.Translating.{ArePassed, IsLeft, IsPassed, IsSaidAnew, said_names}
 
@@ -132,26 +132,26 @@ meant_same old all t names w (Call c) below b =
 
 -- Commands that are said
 
--- the things that a command makes are under labels that it says
+-- the things that a command of a line makes are under labels that were said
+pub read_below : (t : Topology) (w : World) (names after : Names) (text : List ℕ) (c : Command)
+    → command_read names text ≡ Some (c, after) → AreBelow (length names.all) w.things
+    → AreBelow (length after.all) (execute t w 1 c).world.things
+read_below t w names after text c read all =
+    let new : List (List ℕ) = words_in after in
+    let begins : Begins after new = record { more = []; whole = sym (append-nil new) } in
+    let fit = command_fit new names text (c, after) read begins in
+    let before = names_begin new names after text c read begins in
+    let count : length new ≡ length after.all = length-map after.all (λ (n : Name). n.word) in
+    let words : length (words_in names) ≡ length names.all = length-map names.all (λ (n : Name). n.word) in
+    let grown : length names.all ≤ length new =
+    omega (arith, ap length before.whole, length-append (words_in names) before.more, words) in
+    let wide = below_wider (length names.all) (length new) w.things grown all in
+    subst (λ n. AreBelow n (execute t w 1 c).world.things) count (execute_below new names.profile 1 t w c wide fit)
+
 pub says_all : (old : List (List ℕ)) (t : Topology) (c : Command) (a b : Going) → IsSaidAnew old t c a b → SaysAll a → SaysAll b
 says_all old t c a b said all =
-    let new : List (List ℕ) = words_in (said_names b) in
-    let begins : Begins (said_names b) new = record { more = []; whole = sym (append-nil new) } in
-    let fit = command_fit new (said_names a) said.text (said.command, said_names b) said.read begins in
-    let before = names_begin new (said_names a) (said_names b) said.text said.command said.read begins in
-    let count : length new ≡ length (said_names b).all = length-map (said_names b).all (λ (n : Name). n.word) in
-    let grown : length (said_names a).all ≤ length new =
-    omega (
-      arith,
-      ap length before.whole,
-      length-append (words_in (said_names a)) before.more,
-      length-map (said_names a).all
-          (λ (n : Name). n.word),
-    ) in
-    let wide = below_wider (length (said_names a).all) (length new) a.serial.world.things grown all in
-    let made = execute_below new (said_names a).profile 1 t a.serial.world said.command wide fit in
     subst (λ (w : World). AreBelow (length (said_names b).all) w.things) (sym said.world)
-    (subst (λ n. AreBelow n (execute t a.serial.world 1 said.command).world.things) count made)
+    (read_below t a.serial.world (said_names a) (said_names b) said.text said.command said.read all)
 
 -- lines of one text have the same words
 words_same : (xs ys : List (List ℕ)) (k l : List ℕ) (ws vs : List (List ℕ)) → xs ≡ k ∷ ws → ys ≡ l ∷ vs → IsSpaced xs → IsSpaced ys
@@ -205,7 +205,7 @@ pub record Leads (old all : List (List ℕ)) (t : Topology) (cs : List LegacyCom
   pub are : AreTranslated old all t a.serial.world cs extra
 
 -- what a command leaves, and the lines behind it
-abbrev Follows : List (List ℕ) → List (List ℕ) → Topology → World → List LegacyCommand → List Command → Option Command → Type 0
+abbrev pub Follows : List (List ℕ) → List (List ℕ) → Topology → World → List LegacyCommand → List Command → Option Command → Type 0
 Follows old all t w cs lines left =
     SaysNext old all left lines × AreTranslated old all t (after_line t w left lines).world cs (after_line t w left lines).lines
 

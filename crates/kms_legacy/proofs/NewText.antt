@@ -1,10 +1,8 @@
 -- The text of the new script: the lines of the device, of the client, and of the commands that were said.
-use Rattle.std.proofs.Common.{◌≡◌, ℕ, suc, ◌+◌, ◌≤◌, inl, inr, Bool, true, false, List, [], ◌∷◌, ◌++◌, codes, length, length-append, map, Option, Some, None, Ok, Err, refl, sym, ap, subst, ◌∙◌, arith}
+use Rattle.std.proofs.Common.{◌≡◌, ℕ, suc, ◌+◌, ◌≤◌, inl, inr, Bool, true, false, List, [], ◌∷◌, ◌++◌, length, length-append, Option, Some, None, Ok, Err, refl, sym, ap, subst, ◌∙◌, arith}
 use Rattle.std.specs.Prelude.{◌||◌, Result, nat_le, nat_lt}
-use Rattle.std.specs.Fmt.{decimal}
 use Rattle.std.specs.List.{AllByRecursion, list_all}
 use Rattle.std.specs.Result.{result_ok}
-use Rattle.std.specs.Str.{bytes_eq}
 use Rattle.std.proofs.lemmas.Bool.Decides.{nat_tests}
 use Rattle.kms_model.specs.declared.legacy.LegacyCall.{LegacyCall}
 use Rattle.kms_model.specs.declared.legacy.LegacyCommand.{LegacyCommand}
@@ -16,16 +14,15 @@ use Rattle.kms_model.specs.declared.scripts.Request.{Request}
 use Rattle.kms_model.specs.declared.worlds.World.{World}
 use Rattle.kms_model.specs.Legacy.Translated.{fb_of_call, look_anew, meant, mode_of_call, translated}
 use Rattle.kms_model.specs.Legacy.Translation.{present_in}
-use Rattle.kms_model.specs.Report.TextLines.{line}
 use Rattle.kms_model.specs.Script.CommandLines.{Names, command_read, is_over, words_in}
 use Rattle.kms_model.specs.Script.Grammar.{is_printable}
 use Rattle.kms_model.specs.Script.InputLines.{Row}
-use Rattle.kms_model.specs.Script.Spelling.{assign_word, blob_word, command_words, format_word, hex_word, name_word, pattern_words, spelt_line, spelt_lines, spelt_mode}
+use Rattle.kms_model.specs.Script.Spelling.{spelt_line, spelt_lines}
 use Rattle.kms_model.specs.Script.WellFormed.{IsFitCommand, is_command_in}
 use Rattle.kms_model.specs.Script.WholeInput.{Draft, command_line, later_line, script_line}
-use Rattle.kms_model.specs.Script.Words.{until}
 use Rattle.kms_script.specs.ReadAnew.{IsLineOf, RequestsAreReadBack, makes_nothing}
 use Rattle.kms_script.proofs.Inverted.{map_some, some_same}
+use Rattle.kms_script.proofs.LineRead.{IsOfClient, line_printed, of_client}
 use Rattle.kms_script.proofs.NamesBegin.{Begins}
 use Rattle.kms_script.proofs.ProfileStays.{command_stays}
 use Rattle.kms_script.proofs.RowsAgain.{ended_row}
@@ -34,7 +31,6 @@ use Rattle.kms_legacy.specs.declared.script.Going.{Going}
 use Rattle.kms_legacy.specs.Reading.{device_part}
 use Rattle.kms_legacy.specs.Translating.{ArePassed, IsLeft, IsSaidAnew, said_names}
 use Rattle.kms_legacy.proofs.CallsRead.{call_is}
-use Rattle.kms_legacy.proofs.CommandWords.{AreWords, IsSpaced, command_spaced, has_keyword, text_of_words, text_printable}
 use Rattle.kms_legacy.proofs.LegacyWalk.{AreRead, IsReadLine, begins_of, line_kind}
 use Rattle.kms_legacy.proofs.LinesAnew.{read_as, text_same}
 use Rattle.kms_legacy.proofs.LinesLed.{over_none}
@@ -42,59 +38,6 @@ use Rattle.kms_legacy.proofs.RequestsSaid.{request_quiet}
 use Rattle.kms_legacy.proofs.SameLabels.{SameMade, same_line}
 
 -- One line
-
--- a line is none of a device or a client
-record IsOfClient (text : List ℕ) : Type 0 where
-  plane : bytes_eq (until 32 text) (codes "plane") ≡ false
-  conn : bytes_eq (until 32 text) (codes "conn") ≡ false
-  client : bytes_eq (until 32 text) (codes "client") ≡ false
-
-of_words : (text other : List ℕ) → text ≡ other → IsOfClient other → IsOfClient text
-of_words text other same is = subst IsOfClient (sym same) is
-
-of_client : (all : List (List ℕ)) (c : Command) (text : List ℕ) → IsLineOf all c text → IsOfClient text
-of_client all (command.Buffer label width height f p) text is =
-    of_words text _ (text_of_words (codes "buffer") text
-    (name_word all label ∷ decimal width ∷ decimal height ∷ format_word f ∷ pattern_words f p) is)
-    (record { plane = refl; conn = refl; client = refl })
-of_client all (command.AddFb label buffer) text is =
-    of_words text _ (text_of_words (codes "addfb") text (name_word all label ∷ name_word all buffer ∷ []) is)
-    (record { plane = refl; conn = refl; client = refl })
-of_client all (command.Mode label m) text is =
-    of_words text _ (text_of_words (codes "mode") text (name_word all label ∷ spelt_mode m) is)
-    (record { plane = refl; conn = refl; client = refl })
-of_client all (command.Blob label bytes) text is =
-    of_words text _ (text_of_words (codes "blob") text (name_word all label ∷ blob_word bytes ∷ []) is)
-    (record { plane = refl; conn = refl; client = refl })
-of_client all (command.Destroy label) text is =
-    of_words text _ (text_of_words (codes "destroy") text (name_word all label ∷ []) is)
-    (record { plane = refl; conn = refl; client = refl })
-of_client all (command.CloseFb label) text is =
-    of_words text _ (text_of_words (codes "closefb") text (name_word all label ∷ []) is)
-    (record { plane = refl; conn = refl; client = refl })
-of_client all (command.Fence label) text is =
-    of_words text _ (text_of_words (codes "fence") text (name_word all label ∷ []) is) (record { plane = refl; conn = refl; client = refl })
-of_client all (command.Signal label) text is =
-    of_words text _ (text_of_words (codes "signal") text (name_word all label ∷ []) is)
-    (record { plane = refl; conn = refl; client = refl })
-of_client all (command.Atomic r) text is =
-    of_words text _ (text_of_words (codes "atomic") text (hex_word r.flags ∷ decimal r.user_data ∷ map (assign_word all) r.assigns) is)
-    (record { plane = refl; conn = refl; client = refl })
-of_client all command.Wait text is =
-    of_words text _ (text_of_words (codes "wait") text [] is) (record { plane = refl; conn = refl; client = refl })
-
-printed : (xs : List (List ℕ)) (k text : List ℕ) (ws : List (List ℕ)) → xs ≡ k ∷ ws → IsSpaced xs → text ++ 10 ∷ [] ≡ line xs
-    → list_all is_printable text ≡ true
-printed xs k text ws are s is =
-    let words : AreWords s.most (k ∷ ws) = subst (AreWords s.most) are s.words in
-    text_printable s.most k text ws words (is ∙ ap line are)
-
--- each byte of a command's line can be printed
-line_printed : (profile : ℕ) (all : List (List ℕ)) (c : Command) (text : List ℕ) → is_command_in profile all c ≡ true → is_over c ≡ false
-    → IsLineOf all c text → list_all is_printable text ≡ true
-line_printed profile all c text spelt few is =
-    let h = has_keyword all c in
-    printed (command_words all c) h.keyword text h.words h.are (command_spaced profile all c spelt few) is
 
 -- the lines of the device, of the client and of commands
 abbrev pub new_draft : Topology → ℕ → Going → Draft

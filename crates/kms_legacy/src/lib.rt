@@ -10,6 +10,7 @@
 mod calls;
 mod errors;
 mod fields;
+mod laws;
 mod looking;
 mod present;
 mod reading;
@@ -21,6 +22,7 @@ mod translating;
 
 pub use errors::LegacyError;
 pub use kms_model::{LegacyCall, LegacyCommand, LegacyScript};
+pub use laws::there_is_one_translation;
 pub use reading::parse_legacy;
 pub use script::translate_script;
 pub use translating::translate;

@@ -17,6 +17,24 @@ use crate::special::{CURSOR, PRIMARY, special_plane};
 use kms_model::{Duplicates, FbInfo, LegacyCall, LegacyRefusal, Mode, Request, Topology};
 use std::alloc::Global;
 
+/// What `pageflip` shows on a CRTC, by the framebuffer's label, and whether it asks for an event.
+#[derive(Clone, Copy)]
+struct Flipping {
+    crtc: u32,
+    fb: u32,
+    event: bool,
+    user_data: u64,
+}
+
+/// What `cursor` shows on a CRTC, by the framebuffer's label, and where.
+#[derive(Clone, Copy)]
+struct CursorShown {
+    crtc: u32,
+    fb: u32,
+    x: i64,
+    y: i64,
+}
+
 /// The size of a mode; 0 by 0 of one that is not there.
 fn mode_size(mode: Option<Mode>) -> Size
     ensures { (result.width, result.height) ≡ mode_size mode }
@@ -94,16 +112,19 @@ fn page_flip(
     topology: &Topology,
     states: &Duplicates,
     shown: Option<FbInfo>,
-    crtc: u32,
-    fb: u32,
-    event: bool,
-    user_data: u64,
+    asked: Flipping,
 ) -> Result<Request, LegacyError>
-    requires { IsWithin topology.now crtc }
+    requires { IsWithin topology.now asked.crtc }
     ensures { (mode : Option Mode) → GivesRequest result
         (call_request topology.now (present_of states.now) mode shown
-        (calls.PageFlip crtc fb event user_data)) }
+        (calls.PageFlip asked.crtc asked.fb asked.event asked.user_data)) }
 {
+    let Flipping {
+        crtc,
+        fb,
+        event,
+        user_data,
+    } = asked;
     let Some(plane) = special_plane(topology, PRIMARY, crtc) else {
         return Err(refused(LegacyRefusal::NO_PLANE));
     };
@@ -122,15 +143,14 @@ fn cursor(
     alloc: Global,
     topology: &Topology,
     shown: Option<FbInfo>,
-    crtc: u32,
-    fb: u32,
-    x: i64,
-    y: i64,
+    asked: CursorShown,
 ) -> Result<Request, LegacyError>
-    requires { IsWithin topology.now crtc }
+    requires { IsWithin topology.now asked.crtc }
     ensures { (now : Present) (mode : Option Mode) → GivesRequest result
-        (call_request topology.now now mode shown (calls.Cursor crtc fb x y)) }
+        (call_request topology.now now mode shown
+        (calls.Cursor asked.crtc asked.fb asked.x asked.y)) }
 {
+    let CursorShown { crtc, fb, x, y } = asked;
     let Some(plane) = special_plane(topology, CURSOR, crtc) else {
         return Err(refused(LegacyRefusal::NO_PLANE));
     };
@@ -201,8 +221,18 @@ fn translate_other(
             fb,
             event,
             user_data,
-        } => page_flip(alloc, topology, states, shown, crtc, fb, event, user_data),
-        LegacyCall::Cursor { crtc, fb, x, y } => cursor(alloc, topology, shown, crtc, fb, x, y),
+        } => {
+            let asked = Flipping {
+                crtc,
+                fb,
+                event,
+                user_data,
+            };
+            page_flip(alloc, topology, states, shown, asked)
+        }
+        LegacyCall::Cursor { crtc, fb, x, y } => {
+            cursor(alloc, topology, shown, CursorShown { crtc, fb, x, y })
+        }
         LegacyCall::CursorMove { crtc, x, y } => cursor_move(alloc, topology, crtc, x, y),
         LegacyCall::CursorOff { crtc } => cursor_off(alloc, topology, crtc),
         LegacyCall::SetCrtc { .. } | LegacyCall::CrtcOff { .. } => unreachable!(),

@@ -92,13 +92,15 @@ crtc_after t f things old assigns object allowed =
     crtc_after_of t f things old (apply things old assigns) assigns object (last_value assigns object CRTC_ID) allowed refl (value-apply things old assigns object CRTC_ID refl)
 
 -- the CRTC of a plane or a connector before a request, and after it, is one of the device's or none
-pub crtc_before_held : (t : Topology) (things : List worlds.Thing) (values : List Setting) (k : Kind) (index : ℕ) → ArePlainHeld t things values → is_routed k ≡ true → exists t k index ≡ true → IsCrtcOrNone t (crtc_at values (object_id k index))
+pub crtc_before_held : (t : Topology) (things : List worlds.Thing) (values : List Setting) (k : Kind) (index : ℕ)
+    → ArePlainHeld t things values → is_routed k ≡ true → exists t k index ≡ true → IsCrtcOrNone t (crtc_at values (object_id k index))
 crtc_before_held t things values Crtc index held routes there = absurd (cc)
 crtc_before_held t things values Plane index held routes there = plane_crtc-held t things values (object_id Plane index) held (ids-has t Plane index (ltb-true index (length t.planes) there))
 crtc_before_held t things values Conn index held routes there = conn_crtc-held t things values (object_id Conn index) held (ids-has t Conn index (ltb-true index (length t.conns) there))
 crtc_before_held t things values Enc index held routes there = absurd (cc)
 
-pub crtc_after_held : (t : Topology) (f : ℕ → Look) (things : List worlds.Thing) (old : List Setting) (assigns : List Assign) (k : Kind) (index : ℕ) → ArePlainHeld t things old → All (IsAllowed t f) assigns → is_routed k ≡ true → exists t k index ≡ true
+pub crtc_after_held : (t : Topology) (f : ℕ → Look) (things : List worlds.Thing) (old : List Setting) (assigns : List Assign) (k : Kind)
+    (index : ℕ) → ArePlainHeld t things old → All (IsAllowed t f) assigns → is_routed k ≡ true → exists t k index ≡ true
     → IsCrtcOrNone t (crtc_at (apply things old assigns) (object_id k index))
 crtc_after_held t f things old assigns k index held allowed routes there = elim ((crtc_after t f things old assigns (object_id k index) allowed).by) [
   | inl kept ↦ subst (IsCrtcOrNone t) (sym kept.1) (crtc_before_held t things old k index held routes there)

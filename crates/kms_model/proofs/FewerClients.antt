@@ -18,11 +18,11 @@ use Rattle.kms_model.specs.Script.Words.{end_at, from, until}
 
 -- After a line the clients before the present one are those that there were, or with them the one that was the present one; and
 -- the present one has no more commands than it had, or at most 4096.
-record Follows (d next : Draft) : Type 0 where
-  clients : (next.clients ≡ d.clients) ⊎ (next.clients ≡ clients_in d)
-  commands : (length next.commands ≤ length d.commands) ⊎ (length next.commands ≤ 4096)
+pub record Follows (d next : Draft) : Type 0 where
+  pub clients : (next.clients ≡ d.clients) ⊎ (next.clients ≡ clients_in d)
+  pub commands : (length next.commands ≤ length d.commands) ⊎ (length next.commands ≤ 4096)
 
-abbrev KeepsClients : Draft → Lined → Type 0
+abbrev pub KeepsClients : Draft → Lined → Type 0
 KeepsClients d r = (next : Draft) → r ≡ Ok next → Follows d next
 
 ok_kept : (d e : Draft) → Follows d e → KeepsClients d (Ok e)
@@ -99,7 +99,7 @@ sized_kept d n (Ok e) keeps =
     in_unless d (nat_lt script_limit (e.size + n)) Limit (Ok (record e { size = e.size + n }))
     (ok_kept d (record e { size = e.size + n }) (record { clients = follows.clients; commands = follows.commands }))
 
-line_kept : (d : Draft) (row : Row) → KeepsClients d (line_after d row)
+pub line_kept : (d : Draft) (row : Row) → KeepsClients d (line_after d row)
 unfolding line_after
 line_kept d row = in_unless d _ Bytes _ (in_unless d _ Cut _
     (sized_kept d (length row.text + 1) (script_line d row.text) (script_kept d row.text)))
@@ -182,7 +182,7 @@ has-room bytes s is = few_last most_before_two s.clients (clients-few most_befor
 
 -- With 4096 commands it is the grammar itself
 
-same_further : (line : ℕ) (r : Lined) (limited free : Draft → Result Draft Fault) (d : Draft)
+pub same_further : {A : Type 0} (line : ℕ) (r : Lined) (limited free : Draft → Result A Fault) (d : Draft)
     → length d.commands ≤ 4096 → KeepsClients d r
     → ((next : Draft) → length next.commands ≤ 4096 → limited next ≡ free next)
     → or_fault line (within 4096 r) limited ≡ or_fault line r free

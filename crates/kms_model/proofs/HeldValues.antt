@@ -154,7 +154,8 @@ plain-for CrtcName things plain = tt
 plain-for (Thing none) things plain = absurd plain
 
 -- a value among those of a property stands for a held number
-pub held-in_range : (t : Topology) (w : World) (q : ℕ) (r : Range) (v : Value) → AreNumberedFor r w.things → is_kept q ≡ true → is_in_range t (look_up w) q r v ≡ true → is_held t w.things q r (number_of w.things v) ≡ true
+pub held-in_range : (t : Topology) (w : World) (q : ℕ) (r : Range) (v : Value) → AreNumberedFor r w.things → is_kept q ≡ true
+    → is_in_range t (look_up w) q r v ≡ true → is_held t w.things q r (number_of w.things v) ≡ true
 held-in_range t w q (Numbers low high) (Num n) numbered kept is = is
 held-in_range t w q (Numbers low high) (Named label) numbered kept is = absurd cc
 held-in_range t w q (Numbers low high) (New label) numbered kept is = absurd cc
@@ -194,7 +195,8 @@ accepted-assign t w earlier a none =
       is_value = not-false (is_value t (look_up w) a.prop a.value) (number_if-none 7 _ six.second_none);
     }
 
-held-assign : (t : Topology) (w : World) (a : Assign) (values : List Setting) (object : ℕ) (p : Property) → AreNumberedFor p.range w.things → IsKeptRow p → IsAccepted t w a
+held-assign : (t : Topology) (w : World) (a : Assign) (values : List Setting) (object : ℕ) (p : Property) → AreNumberedFor p.range w.things
+    → IsKeptRow p → IsAccepted t w a
     → is_held t w.things p.id p.range (value values object p.id) ≡ true → is_held t w.things p.id p.range (value (assign w.things values a) object p.id) ≡ true
 held-assign t w a values object p numbered row ok held =
     elim (cases_Bool (targets a object p.id)) [
@@ -207,7 +209,8 @@ held-assign t w a values object p numbered row ok held =
     ]
 
 -- values that are held stay so over the assignments of an accepted request
-pub held-apply : (t : Topology) (w : World) (earlier assigns : List Assign) (values : List Setting) (object : ℕ) (p : Property) → AreNumberedFor p.range w.things → IsKeptRow p → assigns_refusal t (look_up w) earlier assigns ≡ None
+pub held-apply : (t : Topology) (w : World) (earlier assigns : List Assign) (values : List Setting) (object : ℕ) (p : Property)
+    → AreNumberedFor p.range w.things → IsKeptRow p → assigns_refusal t (look_up w) earlier assigns ≡ None
     → is_held t w.things p.id p.range (value values object p.id) ≡ true → is_held t w.things p.id p.range (value (apply w.things values assigns) object p.id) ≡ true
 unfolding assigns_refusal
 held-apply t w earlier [] values object p numbered row none held = held
@@ -257,7 +260,8 @@ pub record ArePlainHeld (t : Topology) (things : List worlds.Thing) (values : Li
   pub planes : HoldsPlain t things values kind.Plane
   pub conns : HoldsPlain t things values kind.Conn
 
-pub plain_held-from : (t : Topology) (things : List worlds.Thing) (values : List Setting) → are_held t things values ≡ true → ArePlainHeld t things values
+pub plain_held-from : (t : Topology) (things : List worlds.Thing) (values : List Setting) → are_held t things values ≡ true
+    → ArePlainHeld t things values
 plain_held-from t things values held =
     let all : AreAllHeld t things values = all_held-from t things values held in
     record {

@@ -246,7 +246,8 @@ shown-same t w r d objects stand covers =
         ap (λ m. shown_refusal t.profile m s) (new_mode-at t w r d j s.crtc stand (ap (λ x. x.crtc) is ∙ same) (covers.has_crtc_of i j within inside below same)) ∙ ap (λ x. shown_refusal t.profile (mode_at w.things (after w r) x.crtc) x) is
 
     held : (i : ℕ) → i < count_of t kind.Plane → IsCrtcOrNone t (crtc_at (after w r) (object_id kind.Plane i))
-    held i within = plane_crtc-held t w.things (after w r) (object_id kind.Plane i) (plain-apply t w r stand.at.sound stand.at.early) (ids-has t kind.Plane i within)
+    held i within = plane_crtc-held t w.things (after w r) (object_id kind.Plane i) (plain-apply t w r stand.at.sound stand.at.early)
+        (ids-has t kind.Plane i within)
 
 -- ACTIVE is 0 or 1
 zero_or_one : (z : ℤ) → (int_le (pos 0) z && int_le z (pos 1)) ≡ true → (z ≡ pos 0) ⊎ (z ≡ pos 1)
@@ -261,8 +262,10 @@ actives-differ a b (inl x) (inr y) = rw (x, y) refl
 actives-differ a b (inr x) (inl y) = rw (x, y) refl
 actives-differ a b (inr x) (inr y) = rw (x, y) refl
 
-active-held : (t : Topology) (things : List Thing) (values : List Setting) (crtc : ℕ) → ArePlainHeld t things values → IsIn crtc (ids_of t kind.Crtc) → (value values crtc ACTIVE ≡ pos 0) ⊎ (value values crtc ACTIVE ≡ pos 1)
-active-held t things values crtc all is = zero_or_one (value values crtc ACTIVE) (all.crtcs.at crtc _ is (row-at (kept_properties kind.Crtc) 0 _ refl) tt)
+active-held : (t : Topology) (things : List Thing) (values : List Setting) (crtc : ℕ) → ArePlainHeld t things values
+    → IsIn crtc (ids_of t kind.Crtc) → (value values crtc ACTIVE ≡ pos 0) ⊎ (value values crtc ACTIVE ≡ pos 1)
+active-held t things values crtc all is = zero_or_one (value values crtc ACTIVE)
+    (all.crtcs.at crtc _ is (row-at (kept_properties kind.Crtc) 0 _ refl) tt)
 
 differs-eqb : (p q : Bool) → differs p q ≡ false → p ≡ q
 differs-eqb true true same = refl

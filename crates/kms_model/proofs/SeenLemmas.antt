@@ -48,11 +48,15 @@ row-at (q ∷ qs) ℕ.zero p is = inl cc
 row-at (q ∷ qs) (ℕ.suc i) p is = inr (row-at qs i p is)
 
 -- the CRTC of a plane or a connector
-pub plane_crtc-held : (t : Topology) (things : List Thing) (values : List Setting) (plane : ℕ) → ArePlainHeld t things values → IsIn plane (ids_of t kind.Plane) → IsCrtcOrNone t (crtc_at values plane)
-plane_crtc-held t things values plane all is = crtc-held t (value values plane CRTC_ID) (all.planes.at plane _ is (row-at (kept_properties kind.Plane) 2 _ refl) tt)
+pub plane_crtc-held : (t : Topology) (things : List Thing) (values : List Setting) (plane : ℕ) → ArePlainHeld t things values
+    → IsIn plane (ids_of t kind.Plane) → IsCrtcOrNone t (crtc_at values plane)
+plane_crtc-held t things values plane all is = crtc-held t (value values plane CRTC_ID)
+    (all.planes.at plane _ is (row-at (kept_properties kind.Plane) 2 _ refl) tt)
 
-pub conn_crtc-held : (t : Topology) (things : List Thing) (values : List Setting) (conn : ℕ) → ArePlainHeld t things values → IsIn conn (ids_of t kind.Conn) → IsCrtcOrNone t (crtc_at values conn)
-conn_crtc-held t things values conn all is = crtc-held t (value values conn CRTC_ID) (all.conns.at conn _ is (row-at (kept_properties kind.Conn) 0 _ refl) tt)
+pub conn_crtc-held : (t : Topology) (things : List Thing) (values : List Setting) (conn : ℕ) → ArePlainHeld t things values
+    → IsIn conn (ids_of t kind.Conn) → IsCrtcOrNone t (crtc_at values conn)
+conn_crtc-held t things values conn all is = crtc-held t (value values conn CRTC_ID)
+    (all.conns.at conn _ is (row-at (kept_properties kind.Conn) 0 _ refl) tt)
 
 pub fb-held : (t : Topology) (things : List Thing) (values : List Setting) (plane : ℕ) → AreAllHeld t things values → IsIn plane (ids_of t kind.Plane) → is_thing things FB_ID (pos 0) (value values plane FB_ID) ≡ true
 fb-held t things values plane all is = all.planes.at plane _ is (row-at (kept_properties kind.Plane) 1 _ refl)
@@ -122,7 +126,8 @@ shown-seen t xs ys values plane alike is (IsCrtc index within same) =
     ap (λ m. shown_refusal t.profile m (plane_at ys values plane)) (mode-seen t xs ys values (crtc_at values plane) alike on)
 
 -- The second part of a verdict is the same over lists of things that show the same.
-pub late-seen : (t : Topology) (xs ys : List Thing) (old new : List Setting) (r : Request) → AreSeenAlike t xs ys old → AreSeenAlike t xs ys new → ArePlainHeld t xs new → late_refusal t xs old new r ≡ late_refusal t ys old new r
+pub late-seen : (t : Topology) (xs ys : List Thing) (old new : List Setting) (r : Request) → AreSeenAlike t xs ys old
+    → AreSeenAlike t xs ys new → ArePlainHeld t xs new → late_refusal t xs old new r ≡ late_refusal t ys old new r
 unfolding late_refusal
 late-seen t xs ys old new r before after held =
     let planes = first_some-same (plane_refusal_at xs old new) (plane_refusal_at ys old new) (with_ids (first_id kind.Plane) t.planes)

@@ -119,11 +119,13 @@ late-again t things old new r none =
 
 -- The verdict on the request without flags and assignments is its first late refusal
 
-pub late-empty : (t : Topology) (w : World) → verdict t w empty_request ≡ None → late_refusal t w.things w.values w.values empty_request ≡ None
+pub late-empty : (t : Topology) (w : World) → verdict t w empty_request ≡ None
+    → late_refusal t w.things w.values w.values empty_request ≡ None
 unfolding verdict early_refusal assigns_refusal
 late-empty t w none = none
 
-pub verdict-empty : (t : Topology) (w : World) → late_refusal t w.things w.values w.values empty_request ≡ None → verdict t w empty_request ≡ None
+pub verdict-empty : (t : Topology) (w : World) → late_refusal t w.things w.values w.values empty_request ≡ None
+    → verdict t w empty_request ≡ None
 unfolding verdict early_refusal assigns_refusal
 verdict-empty t w none = none
 
@@ -137,7 +139,8 @@ sound-make t w owner label c lawful =
       sound = record {
         held = are_held-kept t w.things (w.things ++ u ∷ []) w.values w.values (λ object p row held. held-push t w.things u p.id p.range (value w.values object p.id) lawful.numbered.things lawful.numbered.next held) lawful.sound.held;
         accepted = verdict-empty t (make w owner label c).world
-            (sym (late-seen t w.things (w.things ++ u ∷ []) w.values w.values empty_request alike alike (plain_held-from t w.things w.values lawful.sound.held))
+            (sym (late-seen t w.things (w.things ++ u ∷ []) w.values w.values empty_request alike alike
+            (plain_held-from t w.things w.values lawful.sound.held))
             ∙ late-empty t w lawful.sound.accepted);
       };
       numbered = record { things = numbered-push 1000 w.things u lawful.numbered.things lawful.numbered.next; next = ap (λ n. n + 1) lawful.numbered.next ∙ omega (arith, length-append w.things (u ∷ [])) };
@@ -150,7 +153,8 @@ sound-closed t w id lawful =
       sound = record {
         held = are_held-kept t w.things (closed_in w.things id) w.values w.values (λ object p row held. held-seen t w.things (closed_in w.things id) p.id p.range (value w.values object p.id) (seen-closed w.things id (value w.values object p.id)) held) lawful.sound.held;
         accepted = verdict-empty t (record w { things = closed_in w.things id })
-            (sym (late-seen t w.things (closed_in w.things id) w.values w.values empty_request alike alike (plain_held-from t w.things w.values lawful.sound.held))
+            (sym (late-seen t w.things (closed_in w.things id) w.values w.values empty_request alike alike
+            (plain_held-from t w.things w.values lawful.sound.held))
             ∙ late-empty t w lawful.sound.accepted);
       };
       numbered = record { things = numbered-closed 1000 w.things id lawful.numbered.things; next = lawful.numbered.next ∙ ap (λ n. 1000 + n) (sym (length-map w.things (closed_if id))) };
@@ -174,10 +178,12 @@ early-parts t w r none = or_else-none (flags_refusal r.flags) (assigns_refusal t
 pub apply-held : (t : Topology) (w : World) (r : Request) → IsLawful t w → early_refusal t (look_up w) r ≡ None → are_held t w.things (after w r) ≡ true
 apply-held t w r lawful early =
     are_held-kept t w.things w.things w.values (after w r)
-    (λ object p row held. held-apply t w [] r.assigns w.values object p (numbered-for p.range w.things lawful.numbered.things) row (early-parts t w r early).second_none held) lawful.sound.held
+    (λ object p row held. held-apply t w [] r.assigns w.values object p (numbered-for p.range w.things lawful.numbered.things) row
+    (early-parts t w r early).second_none held) lawful.sound.held
 
 -- so are those that are no things, whatever the numbers of the things
-pub plain-apply : (t : Topology) (w : World) (r : Request) → IsSound t w → early_refusal t (look_up w) r ≡ None → ArePlainHeld t w.things (after w r)
+pub plain-apply : (t : Topology) (w : World) (r : Request) → IsSound t w → early_refusal t (look_up w) r ≡ None
+    → ArePlainHeld t w.things (after w r)
 plain-apply t w r sound early =
     let before : ArePlainHeld t w.things w.values = plain_held-from t w.things w.values sound.held in
     record { crtcs = kept kind.Crtc before.crtcs; planes = kept kind.Plane before.planes; conns = kept kind.Conn before.conns }
@@ -194,7 +200,8 @@ sound-apply t w r commits lawful none =
     record {
       sound = record {
         held = apply-held t w r lawful parts.first_none;
-        accepted = verdict-empty t (record w { values = after w r; commits = commits }) (late-again t w.things w.values (after w r) r parts.second_none);
+        accepted = verdict-empty t (record w { values = after w r; commits = commits })
+            (late-again t w.things w.values (after w r) r parts.second_none);
       };
       numbered = record { things = lawful.numbered.things; next = lawful.numbered.next };
     }
@@ -239,13 +246,18 @@ sound-signal_unless t w (Some n) lawful = lawful
 -- A command leaves a lawful world lawful.
 pub execution_keeps_lawful : (t : Topology) (w : World) (client : ℕ) (c : Command) → IsLawful t w → IsLawful t (execute t w client c).world
 unfolding execute
-execution_keeps_lawful t w client (command.Buffer label width height format pattern) lawful = sound-make_unless t w client label (content.Buffer width height format pattern) (new_buffer_refusal w.things width height format) lawful
-execution_keeps_lawful t w client (command.AddFb label buffer) lawful = sound-add_fb t w client label (buffer_of w.things client buffer) lawful
+execution_keeps_lawful t w client (command.Buffer label width height format pattern) lawful = sound-make_unless t w client label
+    (content.Buffer width height format pattern) (new_buffer_refusal w.things width height format) lawful
+execution_keeps_lawful t w client (command.AddFb label buffer) lawful = sound-add_fb t w client label
+    (buffer_of w.things client buffer) lawful
 execution_keeps_lawful t w client (command.Mode label m) lawful = sound-make t w client label (content.Mode m) lawful
 execution_keeps_lawful t w client (command.Blob label bytes) lawful = sound-make t w client label (content.Blob bytes) lawful
-execution_keeps_lawful t w client (command.Destroy label) lawful = sound-close_unless t w (thing_labelled w.things label) (destroy_refusal client (thing_labelled w.things label)) lawful
-execution_keeps_lawful t w client (command.CloseFb label) lawful = sound-close_unless t w (thing_labelled w.things label) (close_refusal client (thing_labelled w.things label)) lawful
+execution_keeps_lawful t w client (command.Destroy label) lawful = sound-close_unless t w (thing_labelled w.things label)
+    (destroy_refusal client (thing_labelled w.things label)) lawful
+execution_keeps_lawful t w client (command.CloseFb label) lawful = sound-close_unless t w (thing_labelled w.things label)
+    (close_refusal client (thing_labelled w.things label)) lawful
 execution_keeps_lawful t w client (command.Fence label) lawful = sound-make t w client label content.Fence lawful
-execution_keeps_lawful t w client (command.Signal label) lawful = sound-signal_unless t w (signal_refusal (thing_labelled w.things label)) lawful
+execution_keeps_lawful t w client (command.Signal label) lawful = sound-signal_unless t w
+    (signal_refusal (thing_labelled w.things label)) lawful
 execution_keeps_lawful t w client (command.Atomic r) lawful = sound-commit t w client r (verdict t w r) refl lawful
 execution_keeps_lawful t w client command.Wait lawful = lawful

@@ -40,12 +40,16 @@ natural-held high (pos n) held = let b : IsBetween (pos 0) (pos high) (pos n) = 
 natural-held high (negsuc n) held = omega arith
 
 -- the numbers of a plane's state
-pub plane_in_range : (t : Topology) (things : List Thing) (values : List Setting) (plane : ℕ) → ArePlainHeld t things values → IsIn plane (ids_of t kind.Plane) → IsPlaneInRange (plane_at things values plane)
+pub plane_in_range : (t : Topology) (things : List Thing) (values : List Setting) (plane : ℕ) → ArePlainHeld t things values
+    → IsIn plane (ids_of t kind.Plane) → IsPlaneInRange (plane_at things values plane)
 plane_in_range t things values plane all is =
-    let at : (i : ℕ) (p : Property) → IsIn p (kept_properties kind.Plane) → IsPlain p.range → is_held t things p.id p.range (value values plane p.id) ≡ true = λ i p row plain. all.planes.at plane p is row plain in
+    let at : (i : ℕ) (p : Property) → IsIn p (kept_properties kind.Plane) → IsPlain p.range
+    → is_held t things p.id p.range (value values plane p.id) ≡ true = λ i p row plain. all.planes.at plane p is row plain in
     record {
-      x = between-held (negsuc 2147483647) (pos 2147483647) (value values plane CRTC_X) (at 3 _ (row-at (kept_properties kind.Plane) 3 _ refl) tt);
-      y = between-held (negsuc 2147483647) (pos 2147483647) (value values plane CRTC_Y) (at 4 _ (row-at (kept_properties kind.Plane) 4 _ refl) tt);
+      x = between-held (negsuc 2147483647) (pos 2147483647) (value values plane CRTC_X)
+          (at 3 _ (row-at (kept_properties kind.Plane) 3 _ refl) tt);
+      y = between-held (negsuc 2147483647) (pos 2147483647) (value values plane CRTC_Y)
+          (at 4 _ (row-at (kept_properties kind.Plane) 4 _ refl) tt);
       w = between-held (pos 0) (pos 2147483647) (value values plane CRTC_W) (at 5 _ (row-at (kept_properties kind.Plane) 5 _ refl) tt);
       h = between-held (pos 0) (pos 2147483647) (value values plane CRTC_H) (at 6 _ (row-at (kept_properties kind.Plane) 6 _ refl) tt);
       src_x = between-held (pos 0) (pos 4294967295) (value values plane SRC_X) (at 7 _ (row-at (kept_properties kind.Plane) 7 _ refl) tt);
@@ -59,13 +63,16 @@ plane_in_range t things values plane all is =
 
 -- the same in a sound world, by the index of the object
 pub sound-plane_in_range : (t : Topology) (w : World) (index : ℕ) → IsSound t w → index < count_of t kind.Plane → IsPlaneInRange (plane_at w.things w.values (object_id kind.Plane index))
-sound-plane_in_range t w index sound within = plane_in_range t w.things w.values (object_id kind.Plane index) (plain_held-from t w.things w.values sound.held) (ids-has t kind.Plane index within)
+sound-plane_in_range t w index sound within = plane_in_range t w.things w.values (object_id kind.Plane index)
+    (plain_held-from t w.things w.values sound.held) (ids-has t kind.Plane index within)
 
 pub sound-plane_crtc : (t : Topology) (w : World) (index : ℕ) → IsSound t w → index < count_of t kind.Plane → IsCrtcOrNone t (crtc_at w.values (object_id kind.Plane index))
-sound-plane_crtc t w index sound within = plane_crtc-held t w.things w.values (object_id kind.Plane index) (plain_held-from t w.things w.values sound.held) (ids-has t kind.Plane index within)
+sound-plane_crtc t w index sound within = plane_crtc-held t w.things w.values (object_id kind.Plane index)
+    (plain_held-from t w.things w.values sound.held) (ids-has t kind.Plane index within)
 
 pub sound-conn_crtc : (t : Topology) (w : World) (index : ℕ) → IsSound t w → index < count_of t kind.Conn → IsCrtcOrNone t (crtc_at w.values (object_id kind.Conn index))
-sound-conn_crtc t w index sound within = conn_crtc-held t w.things w.values (object_id kind.Conn index) (plain_held-from t w.things w.values sound.held) (ids-has t kind.Conn index within)
+sound-conn_crtc t w index sound within = conn_crtc-held t w.things w.values (object_id kind.Conn index)
+    (plain_held-from t w.things w.values sound.held) (ids-has t kind.Conn index within)
 
 on-mode : (on : Bool) (mode : Option Mode) → (on && is_none mode) ≡ false → on ≡ true → is_some mode ≡ true
 on-mode true (Some m) none on = refl

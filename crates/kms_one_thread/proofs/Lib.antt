@@ -5,4 +5,4 @@ mod Turned
 mod Rounding
 mod Finishing
 mod Replayed
-mod Apart
+pub mod Apart

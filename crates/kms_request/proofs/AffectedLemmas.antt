@@ -3,7 +3,7 @@ use Rattle.std.proofs.Common.{◌≡◌, ◌∙◌, ℕ, zero, suc, ◌+◌, ◌
 use Rattle.std.specs.Prelude.{◌&&◌, ◌||◌, ◌==◌, nat_lt, bit_or, slice_get, is_some, if◌then◌else◌}
 use Rattle.std.specs.Int.Bits.{or_zero_r}
 use Rattle.std.specs.List.{list_any, range_with_len}
-use Rattle.std.proofs.lemmas.Bool.{and_left, and_right, or_left, or_right, or_cases, or_parts, or_from, both_ways, cases_Bool, cases_lt, lt-ltb, le-ltb, false_from_ne_true, false≢true}
+use Rattle.std.proofs.lemmas.Bool.{and_left, and_right, or_parts, or_from, cases_Bool, cases_lt, lt-ltb, le-ltb, false≢true}
 use Rattle.std.proofs.lemmas.List.Folds.{list_any-append}
 use Rattle.std.proofs.lemmas.List.FromFn.{map-range_with_len_more}
 use Rattle.kms_model.specs.Device.Places.{state_at}

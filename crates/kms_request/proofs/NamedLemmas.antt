@@ -254,7 +254,8 @@ not_itself t Plane i index out less there placed = ne_eqb (200 + i) (100 + index
 not_itself t Conn i index out less there placed = ne_eqb (300 + i) (100 + index) (λ e. omega (arith, e))
 not_itself t Enc i index out less there placed = absurd placed
 
-none_outside : (t : Topology) (things : List worlds.Thing) (old : List Setting) (f : ℕ → Look) (assigns : List Assign) (index : ℕ) → ArePlainHeld t things old → All (IsAllowed t f) assigns → All IsSettable assigns → t.crtcs ≤ index → index < 4
+none_outside : (t : Topology) (things : List worlds.Thing) (old : List Setting) (f : ℕ → Look) (assigns : List Assign) (index : ℕ)
+    → ArePlainHeld t things old → All (IsAllowed t f) assigns → All IsSettable assigns → t.crtcs ≤ index → index < 4
     → names old (apply things old assigns) assigns (100 + index) ≡ false
 none_outside t things old f assigns index held allowed settable out less = false_from_ne_true _ (λ any.
     let found = some_in (is_named_by old (apply things old assigns) (100 + index)) assigns any in
@@ -281,7 +282,8 @@ shorter test n (suc m) low none = elim (cases_eq n (suc m)) [
 ]
 
 -- a set of CRTCs that are those that a request names
-pub crtcs_named : (t : Topology) (things : List worlds.Thing) (old : List Setting) (f : ℕ → Look) (assigns : List Assign) (test : ℕ → Bool) (mask : ℕ) → HasFew t → ArePlainHeld t things old → All (IsAllowed t f) assigns → All IsSettable assigns
+pub crtcs_named : (t : Topology) (things : List worlds.Thing) (old : List Setting) (f : ℕ → Look) (assigns : List Assign) (test : ℕ → Bool)
+    (mask : ℕ) → HasFew t → ArePlainHeld t things old → All (IsAllowed t f) assigns → All IsSettable assigns
     → AreCrtcs test mask → ((crtc : ℕ) → 0 < crtc → test crtc ≡ names old (apply things old assigns) assigns crtc) → mask ≡ named_set t old (apply things old assigns) assigns
 crtcs_named t things old f assigns test mask few held allowed settable are same =
     let named : ℕ → Bool = λ index. names old (apply things old assigns) assigns (100 + index) in
@@ -297,5 +299,6 @@ named_is t w f r resolved d mask covers are =
     let Duplicated : List Set → Type 0 = λ sets. All (λ s. is_routed_duplicated d s.object.0 ≡ true) sets in
     let duplicated = subst Duplicated covers.asks.sets covers.duplicated in
     let NamedBy : List Set → ℕ → Bool = λ sets crtc. list_any (λ s. set_names d s crtc) sets in
-    crtcs_named t w.things w.values f r.assigns (NamedBy resolved.sets) mask (has_few t covers.limits) (plain_held-from t w.things w.values covers.sound.held) allowed settable are
+    crtcs_named t w.things w.values f r.assigns (NamedBy resolved.sets) mask (has_few t covers.limits)
+    (plain_held-from t w.things w.values covers.sound.held) allowed settable are
     (λ crtc some. ap (λ (sets : List Set). NamedBy sets crtc) covers.asks.sets ∙ same_names t w.things w.values f r.assigns d allowed settable covers.old duplicated crtc some)

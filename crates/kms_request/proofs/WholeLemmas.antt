@@ -106,7 +106,8 @@ named_between-is t w r d mask stand are =
     let new : List Setting = after w r in
     let allowed = accepted_allowed t (look_up w) r stand.early in
     let settable = settable_between t w r d stand in
-    crtcs_named t w.things w.values (look_up w) r.assigns (λ crtc. list_any (λ a. is_named_between d a crtc) r.assigns) mask (has_few t (limits_of t stand.device)) (plain_held-from t w.things w.values stand.sound.held) allowed settable are
+    crtcs_named t w.things w.values (look_up w) r.assigns (λ crtc. list_any (λ a. is_named_between d a crtc) r.assigns) mask
+    (has_few t (limits_of t stand.device)) (plain_held-from t w.things w.values stand.sound.held) allowed settable are
     (λ crtc some. list_any-same (λ a. is_named_between d a crtc) (is_named_by w.values new crtc) r.assigns (λ a member.
     let fits = all_in IsSettable r.assigns a settable member in
     let may = all_in (IsAllowed t (look_up w)) r.assigns a allowed member in
@@ -155,4 +156,5 @@ pub whole_is : (t : Topology) (w : World) (r : Request) (d : Duplicates) (named 
     → late_of_states t d (record { crtcs = 2 ^ 32 - 1; planes = 2 ^ 32 - 1; conns = 2 ^ 32 - 1 }) r.flags named fenced ≡ late_refusal t w.things w.values (after w r) r
 whole_is t w r d named fenced stand named_is fenced_is =
     rw (named_is, fenced_is) (late_of_states-is t w r d (record { crtcs = 2 ^ 32 - 1; planes = 2 ^ 32 - 1; conns = 2 ^ 32 - 1 })
-    (record { at = record { device = stand.device; sound = stand.sound; early = stand.early }; old = stand.old; new = stand.new }) (all_cover t w r d stand))
+    (record { at = record { device = stand.device; sound = stand.sound; early = stand.early }; old = stand.old; new = stand.new })
+    (all_cover t w r d stand))

@@ -49,7 +49,7 @@ pub record StandSomewhere (t : Topology) (r : Request) (d : Duplicates) : Type 0
 
 -- Requests before it is known whether they are accepted
 
--- duplicates of the whole device, old and new alike, in the states that the objects have in a sound world
+-- duplicates of the whole device, old and new alike, in the states that the objects have in a lawful world
 pub record ArePresent (t : Topology) (w : World) (d : Duplicates) : Type 0 where
   pub device : IsDevice t
   pub sound : IsSound t w
@@ -62,7 +62,7 @@ pub record ArePresent (t : Topology) (w : World) (d : Duplicates) : Type 0 where
 abbrev pub TellSame : (ℕ → Look) → (ℕ → Look) → Type 0
 TellSame f g = (label : ℕ) → f label ≡ g label
 
--- the same in some sound world, of whose labels a function tells what they name, where `looks` says what that is
+-- the same in some lawful world, of whose labels a function tells what they name, where `looks` says what that is
 pub record ArePresentSomewhere (looks : World → ℕ → Look) (t : Topology) (f : ℕ → Look) (d : Duplicates) : Type 0 where
   pub world : World
   pub present : ArePresent t world d

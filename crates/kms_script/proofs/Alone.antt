@@ -28,15 +28,17 @@ read_well p bytes (Ok x) value limits = well_formed (spelling x.script) x.script
 read_well p bytes (Err e) value limits = tt
 
 -- a script alone, with nothing behind it
-abbrev alone : ℕ → Result Script Fault → Result Parts Fault
+abbrev pub alone : ℕ → Result Script Fault → Result Parts Fault
 alone size (Ok s) = Ok (parts_of s [] size)
 alone size (Err fault) = Err fault
 
-end_alone : (none : Bool) (size n : ℕ) (d : Draft) → cond none (Err (missing_line n)) (alone size (drafted (Ok d))) ≡ alone size (drafted (cond none (Err (missing_line n)) (Ok d)))
+pub end_alone : (none : Bool) (size n : ℕ) (d : Draft) → cond none (Err (missing_line n)) (alone size (drafted (Ok d))) ≡ alone size
+    (drafted (cond none (Err (missing_line n)) (Ok d)))
 end_alone true size n d = refl
 end_alone false size n d = refl
 
-line_alone : (size n : ℕ) (r : Lined) (f : Draft → Result Parts Fault) (g : Draft → Result Draft Fault) → ((d : Draft) → f d ≡ alone size (drafted (g d))) → or_fault n r f ≡ alone size (drafted (or_fault n r g))
+pub line_alone : (size n : ℕ) (r : Lined) (f : Draft → Result Parts Fault) (g : Draft → Result Draft Fault)
+    → ((d : Draft) → f d ≡ alone size (drafted (g d))) → or_fault n r f ≡ alone size (drafted (or_fault n r g))
 line_alone size n (Ok d) f g same = same d
 line_alone size n (Err why) f g same = refl
 
@@ -45,7 +47,8 @@ unfolding parts_after lines_after
 lines_alone size n d [] = end_alone (is_nil d.conns) size n d
 lines_alone size n d (row ∷ rows) = line_alone size n (line_after d row) _ _ (λ next. lines_alone size (n + 1) next rows)
 
-sized_alone : (long : Bool) (fault : Fault) (size : ℕ) (r : Result Script Fault) (p : Result Parts Fault) → p ≡ alone size r → cond long (Err fault) p ≡ alone size (cond long (Err fault) r)
+pub sized_alone : (long : Bool) (fault : Fault) (size : ℕ) (r : Result Script Fault) (p : Result Parts Fault) → p ≡ alone size r
+    → cond long (Err fault) p ≡ alone size (cond long (Err fault) r)
 sized_alone true fault size r p same = refl
 sized_alone false fault size r p same = same
 
@@ -53,11 +56,11 @@ input_alone : (bytes : List ℕ) → input_of part.Script bytes ≡ alone (lengt
 unfolding input_of input
 input_alone bytes = sized_alone (nat_lt input_limit (length bytes)) (record { line = 0; why = Limit }) (length bytes) _ _ (lines_alone (length bytes) 1 blank_draft (rows_of bytes))
 
-given_alone : (size : ℕ) (r : Result Script Fault) (x : Parts) → alone size r ≡ Ok x → r ≡ Ok x.script
+pub given_alone : (size : ℕ) (r : Result Script Fault) (x : Parts) → alone size r ≡ Ok x → r ≡ Ok x.script
 given_alone size (Ok s) x e = cc
 given_alone size (Err fault) x e = absurd cc
 
-fault_alone : (size : ℕ) (r : Result Script Fault) (fault : Fault) → alone size r ≡ Err fault → r ≡ Err fault
+pub fault_alone : (size : ℕ) (r : Result Script Fault) (fault : Fault) → alone size r ≡ Err fault → r ≡ Err fault
 fault_alone size (Ok s) fault e = absurd cc
 fault_alone size (Err other) fault e = cc
 

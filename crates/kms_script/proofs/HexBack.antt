@@ -1,12 +1,12 @@
 -- Hexadecimal numbers are read as they were written.
-use Rattle.std.proofs.Common.{◌≡◌, ℕ, zero, suc, ◌+◌, ◌*◌, ◌/◌, ◌%◌, ◌<◌, ◌≤◌, ◌^◌, Bool, true, false, List, [], ◌∷◌, ◌++◌, codes, length, length-append, cond, append-nil, append_assoc, Some, refl, sym, ap, subst, ◌∙◌, arith}
-use Rattle.std.specs.Prelude.{nat_le, nat_lt, ◌&&◌, ◌||◌, ◌==◌, not}
+use Rattle.std.proofs.Common.{◌≡◌, ℕ, zero, suc, ◌+◌, ◌*◌, ◌/◌, ◌%◌, ◌<◌, ◌≤◌, ◌^◌, Bool, true, false, List, [], ◌∷◌, ◌++◌, codes, length, length-append, cond, append-nil, append_assoc, Some, refl, sym, ap, ◌∙◌, arith}
+use Rattle.std.specs.Prelude.{nat_le, nat_lt, ◌==◌, not}
 use Rattle.std.specs.Fmt.{digits, digits_onto, digit_glyph}
 use Rattle.std.specs.List.{list_all}
 use Rattle.std.proofs.lemmas.Bool.{and_from, eqb-true, eqb-false, le-leb, ltb-true, ltb-false, ne_eqb, eq-eqb, true≢false}
 use Rattle.std.proofs.lemmas.Bool.Decides.{nat_tests}
 use Rattle.std.proofs.lemmas.List.Folds.{list_all-append}
-use Rattle.kms_model.specs.Script.Grammar.{hex, is_hex_number}
+use Rattle.kms_model.specs.Script.Grammar.{hex}
 use Rattle.kms_model.specs.Script.Spelling.{hex_word}
 use Rattle.kms_model.specs.Script.Words.{between, hex_from, hex_value, is_digit, is_hex}
 use Rattle.kms_script.proofs.Cutting.{each, is_inner}

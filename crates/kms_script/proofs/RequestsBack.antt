@@ -1,23 +1,20 @@
 -- The line of a request is read back behind any names of the same profile.
-use Rattle.std.proofs.Common.{◌≡◌, ℕ, ◌<◌, ◌≤◌, ◌^◌, true, List, [], ◌∷◌, ◌++◌, codes, map, append-nil, append_assoc, Some, refl, sym, ap, subst, ◌∙◌, arith}
+use Rattle.std.proofs.Common.{◌≡◌, ℕ, ◌<◌, ◌≤◌, ◌^◌, true, List, [], ◌∷◌, ◌++◌, codes, map, append-nil, Some, refl, sym, ap, subst, ◌∙◌, arith}
 use Rattle.std.specs.Prelude.{◌&&◌, nat_lt}
-use Rattle.std.specs.Fmt.{decimal, digits}
+use Rattle.std.specs.Fmt.{decimal}
 use Rattle.std.specs.List.{list_all}
 use Rattle.std.proofs.lemmas.Bool.{and_parts, ltb-true}
 use Rattle.std.proofs.lemmas.List.{append_cancel_right}
 use Rattle.kms_model.specs.declared.scripts.Assign.{Assign}
-use Rattle.kms_model.specs.declared.scripts.Command.{Command}
 use Rattle.kms_model.specs.declared.scripts.Command.TheVariants as command
 use Rattle.kms_model.specs.declared.scripts.Request.{Request}
 use Rattle.kms_model.specs.Legacy.Translated.{renumbered}
-use Rattle.kms_model.specs.Report.TextLines.{line}
 use Rattle.kms_model.specs.Script.CommandLines.{Names, assigns_read, atomic_read, command_read, words_in}
-use Rattle.kms_model.specs.Script.Grammar.{hex}
 use Rattle.kms_model.specs.Script.Spelling.{assign_word, command_words, hex_word}
 use Rattle.kms_model.specs.Script.WellFormed.{is_assign_in, is_word32}
 use Rattle.kms_words.specs.Printed.{fields}
 use Rattle.kms_commands.proofs.Spaced.{line-fields}
-use Rattle.kms_script.specs.ReadAnew.{IsLineOf, IsReadBack, IsSaid, RequestsAreReadBack, renamed, renamed_assign}
+use Rattle.kms_script.specs.ReadAnew.{IsLineOf, IsReadBack, RequestsAreReadBack, renamed_assign}
 use Rattle.kms_script.proofs.Cutting.{field_of, is_inner, number_of, words_of_fields}
 use Rattle.kms_script.proofs.HexBack.{hex_inner, hex_read}
 use Rattle.kms_script.proofs.NamesBegin.{Begins}
@@ -25,7 +22,7 @@ use Rattle.kms_script.proofs.SpeltAssigns.{assigns_named}
 use Rattle.kms_script.proofs.WordsBack.{AssignsBack, assigns_back, assigns_inner}
 
 -- the words behind the first one
-abbrev words_behind : List (List ℕ) → Request → List (List ℕ)
+abbrev pub words_behind : List (List ℕ) → Request → List (List ℕ)
 words_behind all r = hex_word r.flags ∷ decimal r.user_data ∷ map (assign_word all) r.assigns
 
 -- the line of a request, without its line feed
@@ -79,6 +76,7 @@ read_whole names all r text b is read =
       made = b.keeps.made;
       once = b.keeps.once;
       labels = b.keeps.labels;
+      stays = b.stays;
     }
 
 pub request_back : RequestsAreReadBack

@@ -82,7 +82,8 @@ abbrev Parts : Type 0
 Parts = Kind × ℕ × List ℕ × List ℕ
 
 -- `OBJ.PROP=VALUE` put together again
-pub words_joined : (kind index prop given tail until_dot from_dot word : List ℕ) → kind ++ index ≡ until_dot → codes "." ++ tail ≡ from_dot → prop ++ (codes "=" ++ given) ≡ tail → until_dot ++ from_dot ≡ word
+pub words_joined : (kind index prop given tail until_dot from_dot word : List ℕ) → kind ++ index ≡ until_dot → codes "." ++ tail ≡ from_dot
+    → prop ++ (codes "=" ++ given) ≡ tail → until_dot ++ from_dot ≡ word
     → kind ++ index ++ codes "." ++ prop ++ codes "=" ++ given ≡ word
 words_joined kind index prop given tail until_dot from_dot word front dot rest whole =
     rw front (append_assoc (until_dot ++ codes "." ++ prop) (codes "=") given

@@ -1,12 +1,12 @@
 -- The words of an assignment are read as they were written, with the numbers that its names have then.
-use Rattle.std.proofs.Common.{◌≡◌, ℕ, zero, suc, ◌+◌, ◌<◌, ◌≤◌, ◌^◌, Bool, true, false, not, List, [], ◌∷◌, ◌++◌, codes, cond, map, append_assoc, Option, Some, None, ℤ, pos, negsuc, refl, sym, ap, subst, ◌∙◌, arith, length}
-use Rattle.std.specs.Prelude.{◌&&◌, ◌||◌, ◌==◌, is_some, int_le, nat_le, option_map, find}
+use Rattle.std.proofs.Common.{◌≡◌, ℕ, zero, suc, ◌+◌, ◌<◌, ◌≤◌, Bool, true, false, not, List, [], ◌∷◌, ◌++◌, codes, cond, map, Option, Some, None, ℤ, pos, negsuc, refl, sym, ap, subst, ◌∙◌, arith, length}
+use Rattle.std.specs.Prelude.{◌&&◌, ◌==◌, is_some, int_le, nat_le, find}
 use Rattle.std.specs.Fmt.{decimal, signed_decimal}
 use Rattle.std.specs.List.{AllByRecursion, list_all, position_or_len}
-use Rattle.std.specs.Option.{option_map_or}
 use Rattle.std.specs.Str.{bytes_eq}
 use Rattle.std.proofs.lemmas.Bool.{and_from, and_parts, eq-eqb, eqb-true, leb-true, not-true, true≢false}
 use Rattle.std.proofs.lemmas.Bool.Decides.{nat_tests}
+use Rattle.std.proofs.lemmas.List.{length-map}
 use Rattle.std.proofs.lemmas.List.Folds.{list_all-append}
 use Rattle.std.proofs.lemmas.Slice.Eq.{bytes_eq-Decides}
 use Rattle.kms_model.specs.declared.objects.Kind.{Kind}
@@ -20,10 +20,10 @@ use Rattle.kms_model.specs.Device.Properties.{Property, has_id, is_in_profile, p
 use Rattle.kms_model.specs.Legacy.Translated.{renumbered}
 use Rattle.kms_model.specs.Report.Replies.{kind_name}
 use Rattle.kms_model.specs.Script.CommandLines.{Name, Names, assign_read, assign_words, assigns_read, place, property_read, said, saying, value_read, was_made, words_in}
-use Rattle.kms_model.specs.Script.Grammar.{int, is_property_byte, is_property_word, known_property, negative, object}
+use Rattle.kms_model.specs.Script.Grammar.{int, is_property_byte, is_property_word, known_property, object}
 use Rattle.kms_model.specs.Script.Spelling.{assign_word, name_word, property_word, value_word}
-use Rattle.kms_model.specs.Script.WellFormed.{is_assign_in, is_integer, is_label_in, is_property_in, is_value_in}
-use Rattle.kms_model.specs.Script.Words.{dec, from, is_digit, is_label, is_label_rest, is_letter, strip, until}
+use Rattle.kms_model.specs.Script.WellFormed.{is_assign_in, is_integer, is_property_in, is_value_in}
+use Rattle.kms_model.specs.Script.Words.{from, is_digit, is_label, is_label_rest, is_letter, until}
 use Rattle.kms_script.specs.ReadAnew.{makes_nothing, renamed_assign, renamed_prop, renamed_value}
 use Rattle.kms_script.proofs.Cutting.{each, is_inner, no_front, number_inner}
 use Rattle.kms_script.proofs.Decimals.{dec_read, decimal_digits}
@@ -80,6 +80,39 @@ pub place_stays : (w : List ℕ) (names : Names) (last : List (List ℕ)) → Be
     → position_or_len (bytes_eq w) last ≡ place w names
 unfolding saying
 place_stays w names last b = rw b.whole (stays w names.all b.more)
+
+-- Words that are among the names
+
+-- a word that a test passes has a number below that of the words
+pub word_low : (test : List ℕ → Bool) → test [] ≡ false → (all : List (List ℕ)) (n : ℕ) → test (name_word all n) ≡ true → n < length all
+word_low test none [] n is = absurd (true≢false (sym is ∙ none))
+word_low test none (w ∷ ws) zero is = omega arith
+word_low test none (w ∷ ws) (suc n) is = let rest = word_low test none ws n is in omega (arith, rest)
+
+pub no_label : is_label [] ≡ false
+unfolding is_label
+no_label = refl
+
+said_step : (t : Bool) (n : Name) (ns more : List Name) → more ≡ ns → cond t (n ∷ ns) (n ∷ more) ≡ n ∷ ns
+said_step true n ns more same = refl
+said_step false n ns more same = ap (λ xs. n ∷ xs) same
+
+said_there : (ns : List Name) (label : ℕ) → label < length ns → said (name_word (map (λ n. n.word) ns) label) ns ≡ ns
+said_there [] label low = absurd (omega (arith, low))
+said_there (n ∷ ns) zero low = let same : bytes_eq n.word n.word ≡ true = (bytes_eq-Decides n.word n.word).1 refl in rw same refl
+said_there (n ∷ ns) (suc label) low =
+    let w : List ℕ = name_word (map (λ m. m.word) ns) label in
+    said_step (bytes_eq w n.word) n ns (said w ns) (said_there ns label (omega (arith, low)))
+
+-- names stay as they are where one of them is said
+saying_there : (names : Names) (all : List (List ℕ)) (label : ℕ) → label < length all → all ≡ words_in names
+    → saying (name_word all label) names ≡ names
+unfolding saying
+saying_there names all label low same =
+    let count = ap length same in
+    let words = length-map names.all (λ (n : Name). n.word) in
+    ap (λ (ns : List Name). record names { all = ns })
+    (ap (λ (ws : List (List ℕ)). said (name_word ws label) names.all) same ∙ said_there names.all label (omega (arith, low, count, words)))
 
 -- Bytes
 
@@ -227,6 +260,7 @@ record PropBack (names : Names) (all : List (List ℕ)) (p : PropRef) : Type 0 w
   read : property_read names (property_word all p) ≡ (prop, after)
   same : (last : List (List ℕ)) → Begins after last → prop ≡ renamed_prop (renumbered all last) p
   keeps : MakesNone names after
+  stays : all ≡ words_in names → after ≡ names
   word : is_property_word (property_word all p) ≡ true
 
 none_known : (o : Option ℕ) → not (is_some o) ≡ true → o ≡ None
@@ -237,7 +271,15 @@ prop_back : (names : Names) (all : List (List ℕ)) (p : PropRef) → is_propert
 unfolding property_read
 prop_back names all (Known id) is =
     let n = named names.profile id is in
-    record { prop = Known id; after = names; read = rw n.known refl; same = λ last b. refl; keeps = none_made names; word = n.word }
+    record {
+      prop = Known id;
+      after = names;
+      read = rw n.known refl;
+      same = λ last b. refl;
+      keeps = none_made names;
+      stays = λ are. refl;
+      word = n.word;
+    }
 prop_back names all (Unknown n) is =
     let w : List ℕ = name_word all n in
     let parts = and_parts (is_property_word w) (not (is_some (known_property names.profile w))) is in
@@ -247,6 +289,7 @@ prop_back names all (Unknown n) is =
       read = rw (none_known (known_property names.profile w) parts.1) refl;
       same = λ last b. ap Unknown (sym (place_stays w names last b));
       keeps = saying_none w names;
+      stays = saying_there names all n (word_low is_property_word refl all n parts.0);
       word = parts.0;
     }
 
@@ -258,6 +301,7 @@ record ValueBack (names : Names) (all : List (List ℕ)) (v : Value) : Type 0 wh
   read : value_read names (value_word all v) ≡ Some (value, after)
   same : (last : List (List ℕ)) → Begins after last → value ≡ renamed_value (renumbered all last) v
   keeps : MakesNone names after
+  stays : all ≡ words_in names → after ≡ names
 
 number_back : (names : Names) (n : ℕ) → n ≤ 18446744073709551615 → value_read names (decimal n) ≡ Some (value.Num (pos n), names)
 unfolding value_read int
@@ -296,7 +340,14 @@ crtc_back names index le = rw (dec_read 255 index (omega arith) le) refl
 
 value_back : (names : Names) (all : List (List ℕ)) (v : Value) → is_value_in all v ≡ true → makes_nothing v ≡ true → ValueBack names all v
 value_back names all (value.Num z) is none =
-    record { value = value.Num z; after = names; read = num_back names z is; same = λ last b. refl; keeps = none_made names }
+    record {
+      value = value.Num z;
+      after = names;
+      read = num_back names z is;
+      same = λ last b. refl;
+      keeps = none_made names;
+      stays = λ are. refl;
+    }
 value_back names all (value.Named label) is none =
     let w : List ℕ = name_word all label in
     record {
@@ -305,6 +356,7 @@ value_back names all (value.Named label) is none =
       read = label_back names w is;
       same = λ last b. ap value.Named (sym (place_stays w names last b));
       keeps = saying_none w names;
+      stays = saying_there names all label (word_low is_label no_label all label is);
     }
 value_back names all (value.New label) is none = absurd cc
 value_back names all (value.Crtc index) is none =
@@ -315,6 +367,7 @@ value_back names all (value.Crtc index) is none =
           (leb-true index 255 is);
       same = λ last b. refl;
       keeps = none_made names;
+      stays = λ are. refl;
     }
 
 -- Assignments
@@ -345,12 +398,16 @@ words_back kind index prop given le is =
       is,
     ) refl
 
+both_stay : (a b c : Names) (all : List (List ℕ)) → (all ≡ words_in a → b ≡ a) → (all ≡ words_in b → c ≡ b) → all ≡ words_in a → c ≡ a
+both_stay a b c all one two are = two (are ∙ ap words_in (sym (one are))) ∙ one are
+
 record AssignBack (names : Names) (all : List (List ℕ)) (a : Assign) : Type 0 where
   assign : Assign
   after : Names
   read : assign_read names (assign_word all a) ≡ Some (assign, after)
   same : (last : List (List ℕ)) → Begins after last → assign ≡ renamed_assign (renumbered all last) a
   keeps : MakesNone names after
+  stays : all ≡ words_in names → after ≡ names
 
 of_both : (all last : List (List ℕ)) (a : Assign) (p : PropRef) (v : Value) → p ≡ renamed_prop (renumbered all last) a.prop
     → v ≡ renamed_value (renumbered all last) a.value
@@ -374,6 +431,7 @@ assign_back names all a is none =
           λ last b. of_both all last a p.prop v.value
           (p.same last (value_named last p.after (value_word all a.value) (v.value, v.after) v.read b).begins) (v.same last b);
       keeps = makes_none names p.after v.after p.keeps v.keeps;
+      stays = both_stay names p.after v.after all p.stays v.stays;
     }
 
 pub record AssignsBack (names : Names) (all : List (List ℕ)) (assigns : List Assign) : Type 0 where
@@ -382,12 +440,13 @@ pub record AssignsBack (names : Names) (all : List (List ℕ)) (assigns : List A
   pub read : assigns_read names (map (assign_word all) assigns) ≡ Some (sets, after)
   pub same : (last : List (List ℕ)) → Begins after last → sets ≡ map (renamed_assign (renumbered all last)) assigns
   pub keeps : MakesNone names after
+  pub stays : all ≡ words_in names → after ≡ names
 
 pub assigns_back : (assigns : List Assign) (names : Names) (all : List (List ℕ)) (profile : ℕ) → names.profile ≡ profile
     → list_all (is_assign_in profile all) assigns ≡ true
     → list_all (λ a. makes_nothing a.value) assigns ≡ true → AssignsBack names all assigns
 assigns_back [] names all profile of are none = record
-    { sets = []; after = names; read = refl; same = λ last b. refl; keeps = none_made names }
+    { sets = []; after = names; read = refl; same = λ last b. refl; keeps = none_made names; stays = λ are. refl }
 assigns_back (a ∷ more) names all profile of are none =
     let are_both = and_parts (is_assign_in profile all a) (list_all (is_assign_in profile all) more) are in
     let none_both = and_parts (makes_nothing a.value) (list_all (λ (x : Assign). makes_nothing x.value) more) none in
@@ -405,6 +464,7 @@ assigns_back (a ∷ more) names all profile of are none =
             rest.same last b,
           ) refl;
       keeps = makes_none names one.after rest.after one.keeps rest.keeps;
+      stays = both_stay names one.after rest.after all one.stays rest.stays;
     }
 
 -- No word has a blank.

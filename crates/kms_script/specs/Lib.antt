@@ -4,3 +4,4 @@ pub mod Overlong
 pub mod ReadAnew
 pub mod Scheduled
 pub mod Stated
+pub mod Within

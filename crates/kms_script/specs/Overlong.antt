@@ -1,8 +1,7 @@
 -- Atomic lines with more assignments than a request may have: what their fault needs.
-use Rattle.std.specs.Prelude.{◌≡◌, ℕ, ◌+◌, ◌*◌, Bool, true, false, ◌==◌, ◌++◌, nat_lt, List, [], ◌∷◌, filter, length, map, Option, Some, None, option_map, if◌then◌else◌, codes}
-use Rattle.std.specs.List.{flat_map}
+use Rattle.std.specs.Prelude.{◌≡◌, ℕ, ◌+◌, Bool, true, false, ◌==◌, ◌++◌, nat_lt, List, [], ◌∷◌, filter, length, Option, Some, None, option_map, if◌then◌else◌, codes}
 use Rattle.std.specs.Option.{option_map_or}
-use Rattle.kms_model.specs.Script.CommandLines.{Name, assign_words}
+use Rattle.kms_model.specs.Script.CommandLines.{assign_words}
 use Rattle.kms_model.specs.Script.Grammar.{hex_at, int, field_words}
 use Rattle.kms_model.specs.Script.Words.{◌>>=◌, dec, dec_at, is_label, strip}
 use Rattle.kms_commands.specs.Packed.{packed_all}

@@ -50,7 +50,8 @@ renamed_assign f a = record a { prop = renamed_prop f a.prop; value = renamed_va
 abbrev pub renamed : (ℕ → ℕ) → Request → Request
 renamed f r = record r { assigns = map (renamed_assign f) r.assigns }
 
--- A line is read behind names as a request whose names have their numbers there; it says the same, and no label is made.
+-- A line is read behind names as a request whose names have their numbers there; it says the same, and no label is made. Where the
+-- names are those with which it was written, they stay as they are.
 pub record IsReadBack (names : Names) (all : List (List ℕ)) (r : Request) (text : List ℕ) : Type 0 where
   pub after : Names
   pub read : command_read names text ≡ Some (command.Atomic (renamed (renumbered all (words_in after)) r), after)
@@ -59,6 +60,7 @@ pub record IsReadBack (names : Names) (all : List (List ℕ)) (r : Request) (tex
   pub made : after.made ≡ names.made
   pub once : after.is_twice ≡ names.is_twice
   pub labels : (w : List ℕ) → was_made w after.all ≡ was_made w names.all
+  pub stays : all ≡ words_in names → after ≡ names
 
 -- The line of a request is read back behind any names of the same profile.
 abbrev pub RequestsAreReadBack : Type 0

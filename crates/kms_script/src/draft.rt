@@ -1,6 +1,7 @@
 //! What the lines so far spell.
 ghost use Rattle.std.specs.Prelude.{◌≡◌, ◌<◌, ◌≤◌, ◌+◌, ◌*◌, ℕ, Some, true, false, IfOk, IfSome, OnOk, length, option_map};
 ghost use Rattle.std.specs.List.{list_all};
+ghost use Rattle.kms_model.specs.Script.FewerCommands.{within};
 ghost use Rattle.kms_model.specs.Script.Grammar.{is_printable};
 ghost use Rattle.kms_model.specs.Script.WholeInput.{blank_draft, is_nil, crtcs_at, plane_type, plane_fields, conn_at, first_line, crtcs_line, plane_line, conn_line, client_line, command_line, later_line, script_line, clients_in, line_after, topology_in, script_in, is_conn_of, is_done, version_read};
 ghost use Rattle.kms_words.specs.Fitting.{KeepsLimits, IsFitCount, IsFitPlane, IsFitMask, IsFitProfile, HasFitClients};
@@ -383,6 +384,23 @@ impl Draft {
             return Err(Stop::Fault(Why::Limit));
         }
         self.size += row.text.len() + 1;
+        Ok(())
+    }
+
+    /// A line, or its first fault, where a client has at most so many commands: any other fault of the line comes before that
+    /// limit. After a fault the draft is of no more use.
+    pub fn line_within(&mut self, alloc: Global, row: &Row<'_>, most: usize) -> Result<(), Stop>
+        requires sound { IsSoundDraft (draft_in self.old) }
+        requires room { HasRoomFor (draft_in self.old) (row_in row.now).text }
+        ensures value { Becomes result
+            (within most (line_after (draft_in self.old) (row_in row.now))) (draft_in self.new) }
+        ensures sound { OnOk result (IsSoundDraft (draft_in self.new)) }
+        ensures longer { OnOk result ((draft_in self.old).size < (draft_in self.new).size) }
+    {
+        self.line(alloc, row)?;
+        if self.commands.len() > most {
+            return Err(Stop::Fault(Why::Limit));
+        }
         Ok(())
     }
 

@@ -1,8 +1,9 @@
 //! Whole inputs.
 ghost use Rattle.std.specs.Prelude.{◌≡◌, ◌≤◌, ◌<◌, ◌+◌, ℕ, Ok, IfOk, length};
 ghost use Rattle.kms_model.specs.declared.scripts.Part.TheVariants as parts;
+ghost use Rattle.kms_model.specs.Script.FewerCommands.{input_within};
 ghost use Rattle.kms_model.specs.Script.InputLines.{rows_of};
-ghost use Rattle.kms_model.specs.Script.Schedules.{at_end_of_lines, behind_script, input_of, parts_after};
+ghost use Rattle.kms_model.specs.Script.Schedules.{at_end_of_lines, behind_script, input_of};
 ghost use Rattle.kms_model.specs.Script.WholeInput.{blank_draft, input, script_in};
 ghost use Rattle.kms_model.specs.Script.WellFormed.{IsWellFormed};
 ghost use Rattle.kms_model.specs.Script.Spelling.{Spells};
@@ -10,6 +11,7 @@ ghost use Rattle.kms_words.specs.Fitting.{KeepsLimits};
 ghost use Rattle.kms_script.specs.Scheduled.{IsScheduleText};
 ghost use Rattle.kms_script.specs.Stated.{Gives, parts_in, parts_of};
 ghost use Rattle.kms_script.specs.Drafted.{draft_in, row_in, IsSoundDraft};
+ghost use Rattle.kms_script.specs.Within.{input_within_of, parts_within};
 
 use crate::draft::Draft;
 use crate::endings::ends_script;
@@ -17,7 +19,7 @@ use crate::faults::ParseError;
 use crate::rows::{Row, split_line};
 use crate::schedules::read_steps;
 use kms_model::{Part, Script, Seq, Step, Why};
-use kms_words::MAX_INPUT;
+use kms_words::{MAX_COMMANDS, MAX_INPUT};
 use std::alloc::Global;
 
 /// What an input has.
@@ -104,11 +106,11 @@ fn behind_script(
     }
 }
 
-/// Reads the lines of an input that is no longer than an input may be.
-fn read_lines(alloc: Global, bytes: &[u8], part: Part) -> Result<Parsed, ParseError>
+/// Reads the lines of an input that is no longer than an input may be, of clients with at most so many commands.
+fn read_lines(alloc: Global, bytes: &[u8], part: Part, most: usize) -> Result<Parsed, ParseError>
     requires { length bytes.now ≤ 67108864 }
     ensures value { Gives parts_in result
-        (parts_after part (length bytes.now) blank_draft 1 (rows_of bytes.now)) }
+        (parts_within most part (length bytes.now) blank_draft 1 (rows_of bytes.now)) }
     ensures limits { IfOk result (λ p. KeepsLimits p.script) }
 {
     let mut draft = Draft::new(alloc);
@@ -119,7 +121,7 @@ fn read_lines(alloc: Global, bytes: &[u8], part: Part) -> Result<Parsed, ParseEr
         if ends_script(part, &draft, &row) {
             return behind_script(alloc, part, draft, End { line, row, after }, bytes.len());
         }
-        if let Err(stop) = draft.line(alloc, &row) {
+        if let Err(stop) = draft.line_within(alloc, &row, most) {
             return Err(stop.at(line));
         }
         line += 1;
@@ -141,7 +143,6 @@ fn read_lines(alloc: Global, bytes: &[u8], part: Part) -> Result<Parsed, ParseEr
 /// passed with this line: 16 planes, 8 connectors, 16 clients, 4096 commands of a client, 256 assignments of a
 /// request, 4096 labels made, or 1,048,576 bytes of the script's lines. Where the input ends before the first
 /// connector, or before the line `report` that is demanded, the fault is `Form` at the number after the last line.
-#[tactic(auto, unfolding(kms_model::specs::Script::Schedules::input_of))]
 pub fn parse(alloc: Global, bytes: &[u8], part: Part) -> Result<Parsed, ParseError>
     ensures value { Gives parts_in result (input_of part bytes.now) }
     ensures formed { IfOk result (λ p. IsWellFormed p.script) }
@@ -152,11 +153,30 @@ pub fn parse(alloc: Global, bytes: &[u8], part: Part) -> Result<Parsed, ParseErr
     ensures text { part ≡ parts.Schedule
         → IfOk result (λ p. IsScheduleText bytes.now p.script p.steps) }
 {
+    parse_within(alloc, bytes, part, MAX_COMMANDS)
+}
+
+/// The same of an input whose clients have at most so many commands each, so that commands can be added: the line of one
+/// more is `Limit`, where it has no other fault. `parse` is the case of 4096, and more than these are none either.
+#[tactic(auto, unfolding(crate::specs::Within::input_within_of))]
+pub fn parse_within(
+    alloc: Global,
+    bytes: &[u8],
+    part: Part,
+    most: usize,
+) -> Result<Parsed, ParseError>
+    ensures value { Gives parts_in result (input_within_of most part bytes.now) }
+    ensures formed { IfOk result (λ p. IsWellFormed p.script) }
+
+    // The script of an input that has a script alone.
+    ensures alone { part ≡ parts.Script
+        → Gives (λ p. p.script) result (input_within most bytes.now) }
+{
     if bytes.len() > MAX_INPUT {
         return Err(ParseError::Fault {
             line: 0,
             why: Why::Limit,
         });
     }
-    read_lines(alloc, bytes, part)
+    read_lines(alloc, bytes, part, most)
 }

@@ -24,7 +24,7 @@ mod stop;
 pub use devices::{TopologyRead, read_topology};
 pub use draft::all_printable;
 pub use faults::ParseError;
-pub use inputs::{Parsed, parse};
+pub use inputs::{Parsed, parse, parse_within};
 pub use kms_model::Why;
 pub use kms_words::{
     MAX_ASSIGNS, MAX_BLOB, MAX_COMMANDS, MAX_INPUT, MAX_LABELS, MAX_SCRIPT, is_label, read_dec,

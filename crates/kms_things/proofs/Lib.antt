@@ -7,3 +7,4 @@ pub mod StatesBelow
 pub mod StartStates
 pub mod SwappedStates
 pub mod SeenStates
+pub mod OpenLabels

@@ -1,25 +1,22 @@
 -- The states of a device's objects before the first command are those of its values.
-use Rattle.std.proofs.Common.{◌≡◌, ℕ, zero, suc, ◌+◌, ◌<◌, ◌≤◌, Bool, true, false, cond, List, [], ◌∷◌, ◌++◌, length, eqb, Option, Some, None, refl, ap, ◌∙◌, inl, inr, arith, append_assoc}
-use Rattle.std.specs.Prelude.{map, nat_lt, slice_get, ◌==◌, ℤ, pos, is_some}
-use Rattle.std.specs.List.{flat_map, list_any, range_with_len}
-use Rattle.std.proofs.lemmas.Bool.Decides.{nat_tests, eqb_tells}
-use Rattle.std.proofs.lemmas.Bool.{and_parts, cases_lt, leb-true}
+use Rattle.std.proofs.Common.{◌≡◌, ℕ, zero, suc, ◌+◌, ◌<◌, ◌≤◌, Bool, true, false, cond, List, [], ◌∷◌, length, eqb, Option, Some, None, refl, ap, ◌∙◌, inl, inr, arith}
+use Rattle.std.specs.Prelude.{map, nat_lt, slice_get, ◌==◌, is_some}
+use Rattle.std.specs.List.{range_with_len}
+use Rattle.std.proofs.lemmas.Bool.Decides.{nat_tests}
+use Rattle.std.proofs.lemmas.Bool.{cases_lt}
 use Rattle.std.proofs.lemmas.Option.{slice_get_past}
 use Rattle.kms_model.specs.declared.objects.Kind.TheVariants as kind
 use Rattle.kms_model.specs.Device.Places.{alike, state_at}
 use Rattle.kms_model.specs.declared.objects.PlaneInfo.{PlaneInfo}
 use Rattle.kms_model.specs.declared.objects.Topology.{Topology}
-use Rattle.kms_model.specs.declared.properties.TheConstants.{TYPE, FB_ID, CRTC_ID, CRTC_X, CRTC_Y, CRTC_W, CRTC_H, SRC_X, SRC_Y, SRC_W, SRC_H, ALPHA, BLEND, ZPOS, ACTIVE}
+use Rattle.kms_model.specs.declared.properties.TheConstants.{CRTC_ID, CRTC_X, CRTC_Y, CRTC_W, CRTC_H, SRC_X, SRC_Y, SRC_W, SRC_H, ALPHA, BLEND, ZPOS, ACTIVE}
 use Rattle.kms_model.specs.declared.states.Both.{Both}
-use Rattle.kms_model.specs.declared.worlds.Setting.{Setting}
 use Rattle.kms_model.specs.Request.Agreement.{AreNew, AreOld, conn_state_at, crtc_state_at}
 use Rattle.kms_model.specs.Device.Masks.{mask_below}
 use Rattle.kms_model.specs.Device.Objects.{count_of, object_id}
-use Rattle.kms_model.specs.Device.Properties.{keeps_limits}
 use Rattle.kms_model.specs.Device.Sound.{IsDevice}
 use Rattle.kms_model.specs.Device.States.{crtc_at, plane_at}
-use Rattle.kms_model.specs.Script.Words.{between}
-use Rattle.kms_model.specs.Device.World.{settings, start, start_conn, start_crtc, start_planes, value}
+use Rattle.kms_model.specs.Device.World.{start}
 use Rattle.kms_model.proofs.SoundStart.{start-crtc, start-zero}
 use Rattle.kms_model.proofs.StartValues.{has_number, plane_numbers, plane_value}
 use Rattle.kms_model.proofs.TouchedLemmas.{few_objects}

@@ -1,6 +1,7 @@
 pub mod Made
 pub mod Counting
 pub mod Index
+pub mod Labels
 pub mod Commands
 pub mod Framebuffers
 pub mod OutFences

@@ -38,7 +38,7 @@ fn look_of_bytes(id: u32, bytes: &[u8]) -> Look
 }
 
 /// An open thing by its kind.
-fn look_of_content(id: u32, content: &Content) -> Look
+pub fn look_of_content(id: u32, content: &Content) -> Look
     ensures { result ≡ look_of_content id content.now }
 {
     match content {

@@ -12,7 +12,7 @@ ghost use Rattle.kms_things.specs.Counting.{fbs_added, fbs_after, fbs_without};
 ghost use Rattle.kms_things.specs.Made.{HasIds, with_made};
 
 use crate::refusals::{close_refusal, destroy_refusal, signal_refusal};
-use crate::things::Things;
+use crate::things::{NewBuffer, Things};
 use kms_model::{Command, Content, Denied, Duplicate, FbInfo, NoMemory, Reply};
 use std::alloc::Global;
 
@@ -146,8 +146,13 @@ impl Things {
                 format,
                 pattern,
             } => {
-                let pattern = pattern.copy(alloc)?;
-                self.make_buffer(alloc, client, *label, *width, *height, *format, pattern)
+                let asked = NewBuffer {
+                    width: *width,
+                    height: *height,
+                    format: *format,
+                    pattern: pattern.copy(alloc)?,
+                };
+                self.make_buffer(alloc, client, *label, asked)
             }
             Command::AddFb { label, buffer } => add_fb(alloc, self, client, *label, *buffer),
             Command::Mode { label, mode } => self.make(client, *label, Content::Mode(*mode)),

@@ -11,12 +11,13 @@ ghost use Rattle.kms_model.specs.Device.States.{framebuffer_of};
 ghost use Rattle.kms_model.specs.Device.World.{thing_labelled, thing_with_id};
 ghost use Rattle.kms_model.specs.Frames.Images.{image_of};
 ghost use Rattle.kms_model.specs.Frames.Shown.{IsFramed};
+ghost use Rattle.kms_model.specs.Order.Suspending.{open_label};
 ghost use Rattle.kms_model.specs.Things.Kept.{Fills, MayGive, MayTake, fbs_closed, fbs_given, fbs_taken, framebuffer, is_last_of};
 ghost use Rattle.kms_model.specs.Things.Tables.{slot, value_with_id};
 ghost use Rattle.kms_things.specs.Index.{IsBlobAt, IsPlain, number_told};
 ghost use Rattle.kms_things.specs.Made.{HasIds, has_ids, with_made};
 
-use crate::index;
+use crate::{index, labels};
 use kms_buffers::{Buffers, FbStore, MakeError};
 use kms_model::{
     Content, Denied, FIRST_THING_ID, FbInfo, Format, Image, NoMemory, Pattern, Reply, Thing,
@@ -27,6 +28,15 @@ use std::marker::Model;
 
 /// Below this a next id leaves room for the things of one command more.
 const MOST: u32 = 4294967000;
+
+/// A buffer that a client asks for, of a width and a height in pixels, and the pattern that fills it.
+#[derive(Drop)]
+pub(crate) struct NewBuffer {
+    pub width: u32,
+    pub height: u32,
+    pub format: Format,
+    pub pattern: Pattern,
+}
 
 /// The things that were made, open and closed, which are found by their labels and their ids without a walk, with the
 /// words of the buffers. Contracts see the things in order of making, and the id of the next one.
@@ -96,6 +106,20 @@ impl Things {
         index::thing_with_id(self.made.as_slice(), id)
     }
 
+    /// The label, by its number from 0, of the open thing with an id; none exactly where no open thing has the id.
+    pub fn label_of(&self, id: u32) -> Option<u32>
+        ensures { result ≡ open_label self.now.things id }
+    {
+        labels::open_label(self.made.as_slice(), id)
+    }
+
+    /// The things in order of making, open and closed.
+    pub(crate) fn made(&self) -> &[Thing]
+        ensures { result.now ≡ self.now.things }
+    {
+        self.made.as_slice()
+    }
+
     /// Makes a thing that is neither a buffer nor a framebuffer, for a client, by its number from 1, under a label, by
     /// its number from 0. Want of memory leaves all as it was.
     pub(crate) fn make(
@@ -157,28 +181,31 @@ impl Things {
         number_of(self.buffers.total_with(width, height, format))
     }
 
-    /// Makes a buffer with its words, of a width and a height in pixels, for a client, by its number from 1, under a
-    /// label, by its number from 0, unless it is refused. Want of memory leaves all as it was.
+    /// Makes a buffer with its words for a client, by its number from 1, under a label, by its number from 0, unless it is
+    /// refused. Want of memory leaves all as it was.
     pub(crate) fn make_buffer(
         &mut self,
         alloc: Global,
         owner: u32,
         label: u32,
-        width: u32,
-        height: u32,
-        format: Format,
-        pattern: Pattern,
+        asked: NewBuffer,
     ) -> Result<Reply, NoMemory>
         requires room { self.old.next_id < 4294967295 }
-        requires fills { Fills pattern width height }
+        requires fills { Fills asked.pattern asked.width asked.height }
         ensures made { IfOk result (λ r. (w : World)
             → make_unless (with_made w self.old) owner label
-            (content.Buffer width height format pattern)
-            (new_buffer_refusal self.old.things width height format)
+            (content.Buffer asked.width asked.height asked.format asked.pattern)
+            (new_buffer_refusal self.old.things asked.width asked.height asked.format)
             ≡ record { world = with_made w self.new; reply = r }) }
         ensures counted { self.new.fbs ≡ self.old.fbs }
         ensures unchanged { OnErr result (self.new ≡ self.old) }
     {
+        let NewBuffer {
+            width,
+            height,
+            format,
+            pattern,
+        } = asked;
         if let Some(number) = self.new_buffer_refusal(width, height, format) {
             return Ok(Reply::Denied(number));
         }

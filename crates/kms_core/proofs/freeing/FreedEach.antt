@@ -1,9 +1,8 @@
 -- Each framebuffer is freed once: the law of what a history frees, by its last step.
-use Rattle.std.proofs.Common.{◌≡◌, ℕ, suc, ◌+◌, ◌<◌, ◌≤◌, List, [], ◌∷◌, ◌++◌, map, Bool, true, false, not, ◌&&◌, ◌||◌, ◌==◌, Option, Some, None, refl, sym, ap, ◌∙◌, subst, arith, append_assoc, append-nil, inl, inr, ◌⊎◌}
+use Rattle.std.proofs.Common.{◌≡◌, ℕ, ◌+◌, ◌<◌, List, [], ◌∷◌, ◌++◌, map, Bool, true, false, not, ◌&&◌, ◌||◌, ◌==◌, Option, Some, None, refl, sym, ap, ◌∙◌, subst, arith, append_assoc, append-nil, inl, inr, ◌⊎◌}
 use Rattle.std.specs.Prelude.{nat_eq, filter}
 use Rattle.std.specs.List.{AllByRecursion, IsDistinct, list_any}
-use Rattle.std.proofs.lemmas.Bool.{and_parts, false≢true, ne_eqb}
-use Rattle.kms_model.specs.declared.objects.Topology.{Topology}
+use Rattle.std.proofs.lemmas.Bool.{and_parts, ne_eqb}
 use Rattle.kms_model.specs.declared.replies.Reply.{Reply}
 use Rattle.kms_model.specs.declared.replies.Reply.TheVariants as reply
 use Rattle.kms_model.specs.declared.replies.Step.{Step}
@@ -30,8 +29,8 @@ use Rattle.kms_laws.proofs.Framebuffers.{all_in-from, find-same}
 use Rattle.kms_laws.proofs.Steps.{IsPlainScript, history_kept, step_kept}
 use Rattle.kms_laws.proofs.Turning.{legal-more, run-more}
 use Rattle.kms_core.specs.Freeing.{AreRising}
-use Rattle.kms_core.proofs.freeing.FreedBetween.{IsGrown, IsGrownAt, IsSameThing, freed_as, freed_last, grown_same, lost, passes_in}
-use Rattle.kms_core.proofs.freeing.FreedHistories.{Changes, Commits, Executes, Latches, changes, make_frees, quiet_needs, quiet_swap}
+use Rattle.kms_core.proofs.freeing.FreedBetween.{IsGrown, IsGrownAt, freed_as, freed_last, grown_same, lost, passes_in}
+use Rattle.kms_core.proofs.freeing.FreedHistories.{Changes, Latches, changes, make_frees, quiet_needs, quiet_swap}
 use Rattle.kms_core.proofs.freeing.FreedLists.{ids_rise, passes}
 use Rattle.kms_core.proofs.freeing.FreedMakes.{MadeFrees}
 use Rattle.kms_core.proofs.freeing.FreedSteps.{SameNeeds, needs_of, stays}

@@ -1,11 +1,10 @@
 -- What is needed stays in the store, and what a step frees leaves it.
-use Rattle.std.proofs.Common.{◌≡◌, ℕ, ◌+◌, ◌<◌, ◌≤◌, List, [], ◌∷◌, ◌++◌, length, map, Bool, true, false, not, ◌&&◌, ◌||◌, ◌==◌, Option, Some, None, refl, sym, ap, ◌∙◌, subst, arith, inl, inr}
+use Rattle.std.proofs.Common.{◌≡◌, ℕ, ◌+◌, ◌<◌, List, [], ◌∷◌, ◌++◌, length, map, Bool, true, false, not, ◌&&◌, ◌||◌, ◌==◌, Option, Some, None, refl, sym, ap, ◌∙◌, subst, arith, inl, inr}
 use Rattle.std.specs.Prelude.{if◌then◌else◌, filter}
 use Rattle.std.specs.List.{list_any}
 use Rattle.std.specs.Option.{option_map}
-use Rattle.std.proofs.lemmas.Bool.{cases_eq, cond-false, cond-true, eq-eqb, false≢true, ne_eqb}
+use Rattle.std.proofs.lemmas.Bool.{cases_eq, cond-false, cond-true, eq-eqb, ne_eqb}
 use Rattle.kms_model.specs.declared.objects.Topology.{Topology}
-use Rattle.kms_model.specs.declared.pictures.FbInfo.{FbInfo}
 use Rattle.kms_model.specs.declared.things.Framebuffer.{Framebuffer}
 use Rattle.kms_model.specs.declared.tables.Slot.{Slot}
 use Rattle.kms_model.specs.declared.worlds.Content.{Content}
@@ -21,7 +20,7 @@ use Rattle.kms_model.specs.Firsts.{denied_if}
 use Rattle.kms_model.specs.Machine.Framebuffers.{if_needed, is_needed, stored_framebuffer}
 use Rattle.kms_model.specs.Machine.State.{Machine}
 use Rattle.kms_model.specs.Things.Kept.{after_close, closed, fbs_closed, with_fewer}
-use Rattle.kms_model.specs.Things.Tables.{put_in, slot, value_with_id, with_value, without_id}
+use Rattle.kms_model.specs.Things.Tables.{slot, value_with_id, with_value, without_id}
 use Rattle.kms_model.proofs.Items.{IsIn}
 use Rattle.kms_model.proofs.ThingLemmas.{find-in, ids-numbered}
 use Rattle.kms_model.proofs.ShownLemmas.{with-id}
@@ -30,7 +29,7 @@ use Rattle.kms_laws.proofs.Framebuffers.{find-same}
 use Rattle.kms_core.specs.Freeing.{AreRising, freed_among, label_and_id}
 use Rattle.kms_core.specs.Stored.{AreHeld, AreStored, held_as, held_where, without_freed}
 use Rattle.kms_core.proofs.freeing.FreedBetween.{lost, needed_framebuffer, passes_in}
-use Rattle.kms_core.proofs.freeing.FreedLists.{passes, rising_low}
+use Rattle.kms_core.proofs.freeing.FreedLists.{passes}
 use Rattle.kms_core.proofs.freeing.FreedMakes.{IsAdded, IsClosed, added_thing}
 use Rattle.kms_core.proofs.freeing.FreedSteps.{IsQuiet, IsTold, longer_new, longer_old, needed_by}
 

@@ -10,7 +10,6 @@ use Rattle.kms_model.specs.declared.worlds.World.{World}
 use Rattle.kms_model.specs.Request.Lookups.{look_up}
 use Rattle.kms_model.specs.Device.Objects.{count_of}
 use Rattle.kms_model.specs.Request.Touched.{named_by, touched_by}
-use Rattle.kms_model.proofs.TouchedLemmas.{after}
 use Rattle.kms_request.specs.Answers.{refusal_number}
 use Rattle.kms_model.specs.Request.Deciding.{AreOfSoundWorld, IsAskedFor, IsOfRequest}
 use Rattle.kms_check.specs.Applying.{IsApplicable, SetsAll}

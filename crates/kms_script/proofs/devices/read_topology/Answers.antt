@@ -14,7 +14,8 @@ returns-then-is_done-clause-value c =
     rw (c.device_in.ensures, ← c.lines.invariant.read, c.split_line.ensures.rows) (refl, device_is_done before c.lines.number row rows (sym c.if-is_done.ensures))
 
 pub returns-then-is_done-clause-legal : goal.returns-then-is_done-clause-legal
-returns-then-is_done-clause-legal c = rw c.device_in.ensures (device_at (draft_in c.lines.draft) (row_in c.split_line.result.0) c.lines.invariant.sound.device (sym c.if-is_done.ensures))
+returns-then-is_done-clause-legal c = rw c.device_in.ensures
+    (device_at (draft_in c.lines.draft) (row_in c.split_line.result.0) c.lines.invariant.sound.device (sym c.if-is_done.ensures))
 
 pub returns-in-Err-clause-value : goal.returns-in-Err-clause-value
 returns-in-Err-clause-value c =
@@ -48,4 +49,5 @@ returns-clause-value c =
     rw (c.device_in-2.ensures, ← c.lines.invariant.read) (refl, device_ended_well (draft_in c.lines.draft) c.lines.number c.lines.rest.now done (sym c.if-lacks_connectors.ensures))
 
 pub returns-clause-legal : goal.returns-clause-legal
-returns-clause-legal c = rw c.device_in-2.ensures (device_at_end (draft_in c.lines.draft) c.lines.invariant.sound.device (sym c.if-lacks_connectors.ensures))
+returns-clause-legal c = rw c.device_in-2.ensures
+    (device_at_end (draft_in c.lines.draft) c.lines.invariant.sound.device (sym c.if-lacks_connectors.ensures))

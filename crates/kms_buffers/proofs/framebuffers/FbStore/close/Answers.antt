@@ -1,8 +1,7 @@
 use Rattle.std.proofs.Common.{rules, ◌≡◌, Err, Ok, refl, ap, sym, subst, ◌∙◌}
-use Rattle.kms_model.specs.declared.replies.Denied.{Denied}
 use Rattle.kms_model.specs.declared.things.Framebuffer.{Framebuffer}
 use Rattle.kms_model.specs.declared.tables.Slot.{Slot}
-use Rattle.std.specs.Prelude.{List, Bool, Result, ◌==◌}
+use Rattle.std.specs.Prelude.{List, ◌==◌}
 use Rattle.kms_model.specs.declared.replies.TheConstants.Denied.{NOT_FOUND}
 use Rattle.kms_model.specs.Things.Kept.{close_answer}
 use Rattle.kms_model.specs.Things.OpenThings.{denial}

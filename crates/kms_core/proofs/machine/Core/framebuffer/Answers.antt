@@ -1,4 +1,4 @@
-use Rattle.std.proofs.Common.{◌∙◌, ap, subst}
+use Rattle.std.proofs.Common.{◌∙◌, ap}
 use Rattle.kms_model.specs.Machine.Framebuffers.{stored_framebuffer}
 use Rattle.kms_core.proofs.freeing.StoredSteps.{told_info}
 use Rattle.kms_core.specs.Insides.{run_in, stores_of}
