@@ -1,0 +1,22 @@
+use Rattle.std.proofs.Common.{List, subst}
+use Rattle.std.proofs.lemmas.List.{take_all}
+use Rattle.kms_model.specs.declared.pictures.Layer.{Layer}
+use Rattle.kms_audit.specs.Framed.{AreSeen}
+use Rattle.kms_audit.proofs.Pushed.{pushed-images, pushed-more}
+use Rattle.kms_audit.proofs.images.push_layers.Goals as goal
+
+pub loop-layer-preserved : goal.loop-layer-preserved
+loop-layer-preserved c =
+    let things = c.args.serial.now.world.things in
+    let before = c.loop-layer.invariant in
+    let pushed = c.in_ok-push_image.ensures in
+    record {
+      images = pushed-images things _ c.loop-layer.images c.push_image.new.images pushed before.images;
+      seen = pushed-more things c.args.layers.now c.loop-layer.layer-index _ c.loop-layer.images c.push_image.new.images
+          c.loop-layer-test.true pushed before.images before.seen;
+    }
+
+pub returns-clause-seen : goal.returns-clause-seen
+returns-clause-seen c =
+    subst (λ (layers : List Layer). AreSeen c.args.serial.now.world.things c.loop-layer.images layers)
+    (take_all c.loop-layer.layer-index c.args.layers.now c.loop-layer-test.false) c.loop-layer.invariant.seen

@@ -1,0 +1,14 @@
+pub mod Sections
+pub mod Indexed
+pub mod Ordered
+pub mod Touching
+pub mod Judged
+pub mod Compared
+pub mod Owned
+pub mod Framed
+pub mod Latching
+pub mod Eventing
+pub mod Ended
+pub mod Walked
+pub mod Told
+pub mod Implied
