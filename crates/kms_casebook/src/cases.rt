@@ -76,6 +76,42 @@ impl Case {
         Ok(self.input.extend_from_slice(other.input.as_slice())?)
     }
 
+    /// Puts the script of another case behind the input: its lines before a schedule.
+    pub(crate) fn add_script_of(&mut self, other: &Case) -> Result<(), LineError> {
+        for line in other
+            .input
+            .as_slice()
+            .split_inclusive(|byte| *byte == b'\n')
+        {
+            if line == b"schedule\n".as_slice() {
+                return Ok(());
+            }
+            self.input.extend_from_slice(line)?;
+        }
+        Ok(())
+    }
+
+    /// Puts lines of the output that is wanted of another case behind the input: so many, behind so many others.
+    pub(crate) fn add_lines_of(
+        &mut self,
+        other: &Case,
+        behind: u32,
+        count: u32,
+    ) -> Result<(), LineError> {
+        let mut number = 0u32;
+        for line in other
+            .output
+            .as_slice()
+            .split_inclusive(|byte| *byte == b'\n')
+        {
+            if behind <= number && number - behind < count {
+                self.input.extend_from_slice(line)?;
+            }
+            number = number.saturating_add(1);
+        }
+        Ok(())
+    }
+
     /// Adds a part of the output.
     pub(crate) fn add_part(&mut self, alloc: Global, text: &str) -> Result<(), LineError> {
         if !self.output.is_empty() {

@@ -57,10 +57,26 @@ fn add_line(
         (">", times) => case.add_output(alloc, line.text, times),
         ("~", 1) => case.add_part(alloc, line.text),
         ("status", 1) => case.set_ending(read_ending(alloc, line.text)?),
-        ("as", 1) => match find(earlier, line.text) {
-            Some(other) => case.add_input_of(other),
-            None => Err(LineError::Fault(Why::Other)),
+        (mark, times) => match find(earlier, line.text) {
+            Some(other) => add_of(case, other, mark, times),
+            None if names_other(mark) => Err(LineError::Fault(Why::Other)),
+            None => Err(LineError::Fault(Why::Mark)),
         },
+    }
+}
+
+/// Whether the text behind a mark names another case.
+fn names_other(mark: &str) -> bool {
+    matches!(mark, "as" | "script" | "to" | "from")
+}
+
+/// Adds to a case what another one has.
+fn add_of(case: &mut Case, other: &Case, mark: &str, number: u32) -> Result<(), LineError> {
+    match (mark, number) {
+        ("as", 1) => case.add_input_of(other),
+        ("script", 1) => case.add_script_of(other),
+        ("to", last) => case.add_lines_of(other, 0, last),
+        ("from", first) => case.add_lines_of(other, first.saturating_sub(1), u32::MAX),
         _ => Err(LineError::Fault(Why::Mark)),
     }
 }

@@ -6,5 +6,6 @@ pub mod LatchText
 pub mod Pieces
 pub mod Ranges
 pub mod ReplyWords
+pub mod RightText
 pub mod SmallSteps
 pub mod Whole

@@ -14,7 +14,7 @@ use Rattle.kms_model.specs.Report.History as history
 use Rattle.kms_model.specs.Report.TextLines.{line}
 use Rattle.kms_model.specs.Report.Right.{events_told}
 use Rattle.kms_report.specs.declared.answers.Section.TheVariants.{Events, Replies}
-use Rattle.kms_report.specs.Telling.{entry_text, events_text, freed_text, latches_text, replies_text, section_text}
+use Rattle.kms_report.specs.Telling.{entry_text, events_text, freed_text, latches_text, all_replies, replies_text, section_text}
 
 flat_map-map : {A B : Type 0} (f : B → List ℕ) (g : A → B) (xs : List A) → flat_map f (map g xs) ≡ flat_map (λ x. f (g x)) xs
 flat_map-map f g [] = refl
@@ -75,3 +75,10 @@ module _ (s : Script) (h : List Step) (o : history.Options) where
       ++ (line (codes "D" ∷ history.end_words s (at s h) (length h))
       ++ history.if_wanted o.trace (flat_map history.step_line h)))))))
       ∙ whole told
+
+-- the part with the replies alone
+pub only-replies : (s : Script) (h : List Step) (told t0 t1 : List ℕ) (answers : List Answered) (clients : ℕ) → told ≡ t1 → t0 ≡ []
+    → t1 ≡ t0 ++ flat_map (section_text Replies answers) (range_with_len 1 clients)
+    → answers ≡ replies (at s h) → clients ≡ length s.clients → told ≡ all_replies s (at s h)
+only-replies s h told t0 t1 answers clients same empty grew are count =
+    same ∙ grew ∙ (λ i. empty i ++ flat_map (section_text Replies (are i)) (range_with_len 1 (count i)))

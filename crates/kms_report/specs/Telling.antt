@@ -8,6 +8,8 @@ use Rattle.kms_model.specs.declared.replies.Answered.{Answered}
 use Rattle.kms_model.specs.declared.replies.Step.{Step}
 use Rattle.kms_model.specs.declared.runs.Latch.{Latch}
 use Rattle.kms_model.specs.Frames.Ppm.{ppm}
+use Rattle.kms_model.specs.declared.scripts.Script.{Script}
+use Rattle.kms_model.specs.Machine.Histories.{client_numbers}
 use Rattle.kms_model.specs.Machine.State.{Machine}
 use Rattle.kms_model.specs.Report.History.{digest_of}
 use Rattle.kms_model.specs.Report.History as history
@@ -29,6 +31,10 @@ entry_text e = line (codes "J" ∷ decimal e.0 ∷ decimal e.1 ∷ [])
 -- the lines of the replies to a client
 abbrev pub replies_text : List Answered → ℕ → List ℕ
 replies_text answers client = flat_map history.answer_line (filter (λ a. a.client == client) answers)
+
+-- The lines of the replies to all clients, in order of client: the second part of a report.
+abbrev pub all_replies : Script → Machine → List ℕ
+all_replies s m = flat_map (λ client. flat_map history.answer_line (history.answers_to m client)) (client_numbers s)
 
 -- the front of the line of a latch
 abbrev pub latch_front : Latch → List ℕ

@@ -5,12 +5,15 @@ ghost use Rattle.kms_core.specs.Run.{machine};
 ghost use Rattle.kms_model.specs.Frames.Shown.{EachCanBeShown};
 ghost use Rattle.kms_model.specs.Report.History as history;
 ghost use Rattle.kms_report.specs.Images.{things_of};
+ghost use Rattle.kms_report.specs.Right.{IsRight};
 ghost use Rattle.kms_report.specs.Telling.{HasSmallIndex, history_options, entry_text, freed_text, latches_text};
 
 use crate::answers::{Section, push_sections};
 use crate::ends::push_end;
 use crate::lines::{push_entry, push_freed, push_step};
+use crate::right::has_no_wrong_line;
 use crate::tellers::Tells;
+use crate::told::Told;
 use kms_core::Core;
 use kms_kept_frames::{OneThread, SeveralThreads};
 use kms_model::{Latch, NoMemory, Script, Seq, Step};
@@ -37,13 +40,12 @@ fn push_journal(alloc: Global, text: &mut Vec<u8>, journal: &[(u32, u32)]) -> Re
     Ok(())
 }
 
-/// Adds the latches of all CRTCs, of which there are so many.
+/// Adds the latches of all CRTCs.
 fn push_all_latches<T: Tells>(
     teller: &T,
     alloc: Global,
     text: &mut Vec<u8>,
     core: &Core,
-    crtcs: u32,
     latches: &[Latch],
     pixmap: bool,
 ) -> Result<(), NoMemory>
@@ -51,10 +53,17 @@ fn push_all_latches<T: Tells>(
     requires can { All (λ l. EachCanBeShown (things_of core.now) l.picture) latches.now }
     ensures { OnOk result (text.new.items ≡ text.old.items
         ++ flat_map (latches_text (machine core.now) pixmap latches.now)
-        (range_with_len 0 crtcs)) }
+        (range_with_len 0 core.now.script.topology.crtcs)) }
 {
+    let crtcs = core.script().topology.crtcs;
     for crtc in 0..crtcs {
-        teller.push(alloc, text, core, crtc, latches, pixmap)?;
+        let told = Told {
+            core,
+            crtc,
+            latches,
+            pixmap,
+        };
+        teller.push(alloc, text, &told)?;
     }
     Ok(())
 }
@@ -116,19 +125,10 @@ fn report_by<T: Tells>(
     kms_laws::what_was_latched_can_be_composed();
     kms_laws::events_read_are_replies();
     let clients = script.clients.len() as u32;
-    let crtcs = script.topology.crtcs;
     let mut text = Vec::new(alloc);
     push_journal(alloc, &mut text, core.journal())?;
     push_sections(alloc, &mut text, Section::Replies, clients, core.replies())?;
-    push_all_latches(
-        teller,
-        alloc,
-        &mut text,
-        core,
-        crtcs,
-        core.latched(),
-        options.ppm,
-    )?;
+    push_all_latches(teller, alloc, &mut text, core, core.latched(), options.ppm)?;
     push_sections(alloc, &mut text, Section::Events, clients, core.replies())?;
     push_all_freed(alloc, &mut text, &script.names, core.freed())?;
     push_end(alloc, &mut text, &script.names, core)?;
@@ -138,7 +138,8 @@ fn report_by<T: Tells>(
 
 /// The report of the history of a script: the journal, the replies by client, the latches by CRTC with the digest of each
 /// frame, the events read by client, the framebuffers freed, how the history ended, and what the options ask for besides.
-/// Lines of one kind are in order of time, but for their clients and CRTCs.
+/// Lines of one kind are in order of time, but for their clients and CRTCs. Without pixmaps, no line is wrong: each is one of
+/// a report's, and says what the device of one thread does.
 ///
 /// The only error is want of memory. The time is linear in the history, the frames and the text. Besides the text there are two
 /// frames at a time, kept or being made, and no other. A picture that is one of the two that its CRTC showed last has its frame
@@ -151,9 +152,11 @@ pub fn report(
     options: Options,
 ) -> Result<Seq<u8>, NoMemory>
     requires { script.now ≡ core.now.script }
-    ensures { IfOk result (λ text. text
+    ensures exact { IfOk result (λ text. text
         ≡ history.text core.now.script core.now.steps (history_options options)) }
+    ensures right { IfOk result (IsRight core.now.script options) }
 {
+    has_no_wrong_line(core);
     report_by(&OneThread, alloc, script, core, options)
 }
 
@@ -170,8 +173,10 @@ pub fn report_with<R: Threads + Sync>(
     options: Options,
 ) -> Result<Seq<u8>, NoMemory>
     requires { script.now ≡ core.now.script }
-    ensures { IfOk result (λ text. text
+    ensures exact { IfOk result (λ text. text
         ≡ history.text core.now.script core.now.steps (history_options options)) }
+    ensures right { IfOk result (IsRight core.now.script options) }
 {
+    has_no_wrong_line(core);
     report_by(&SeveralThreads { rt }, alloc, script, core, options)
 }

@@ -1,20 +1,20 @@
 //! The lines of latches.
-ghost use Rattle.std.specs.Prelude.{◌≡◌, ◌*◌, ◌++◌, ◌∷◌, [], codes, length, string_bytes, All, IfOk, OnOk};
+ghost use Rattle.std.specs.Prelude.{◌≡◌, ◌*◌, ◌++◌, ◌∷◌, [], codes, length, string_bytes, IfOk, OnOk};
 ghost use Rattle.std.specs.Fmt.{decimal};
 ghost use Rattle.hex.specs.Hex.{encode_lower};
 ghost use Rattle.sha2.specs.Sha256.{sha256};
 ghost use Rattle.kms_core.specs.Run.{machine};
-ghost use Rattle.kms_model.specs.declared.pictures.Picture.TheVariants.{On};
 ghost use Rattle.kms_model.specs.Frames.Shown.{EachCanBeShown};
 ghost use Rattle.kms_model.specs.Report.History.{latch_line};
 ghost use Rattle.kms_report.specs.Images.{things_of};
 ghost use Rattle.kms_report.specs.Telling.{latch_front, latches_text, lit_line};
+ghost use Rattle.kms_report.specs.Told.{CanBeTold, told_text};
 ghost use Rattle.kms_kept_frames.specs.Screens.{AreKeptFramesOf};
 
 use crate::pixmaps::push_pixmap;
 use crate::showing::show_latch;
+use crate::told::Told;
 use kms_compose::Frame;
-use kms_core::Core;
 use kms_kept_frames::{Hands, Screen};
 use kms_model::{Latch, Mode, NoMemory, Picture};
 use std::alloc::{AllocError, Global};
@@ -78,26 +78,24 @@ fn push_latch<H: Hands>(
     hands: &H,
     alloc: Global,
     text: &mut Vec<u8>,
-    core: &Core,
     screen: Screen,
     latch: &Latch,
-    after: &[Latch],
-    pixmap: bool,
+    after: &Told,
 ) -> Result<Screen, NoMemory>
     requires hands { H.can_work hands.now }
-    requires screen { AreKeptFramesOf (things_of core.now) screen }
-    requires latch { EachCanBeShown (things_of core.now) latch.now.picture }
-    requires after { All (λ l. EachCanBeShown (things_of core.now) l.picture) after.now }
-    ensures text { OnOk result (text.new.items
-        ≡ text.old.items ++ latch_line (machine core.now) pixmap latch.now) }
-    ensures screen { IfOk result (AreKeptFramesOf (things_of core.now)) }
+    requires screen { AreKeptFramesOf (things_of after.now.core.now) screen }
+    requires latch { EachCanBeShown (things_of after.now.core.now) latch.now.picture }
+    requires after { CanBeTold after.now }
+    ensures text { OnOk result (text.new.items ≡ text.old.items
+        ++ latch_line (machine after.now.core.now) after.now.pixmap latch.now) }
+    ensures screen { IfOk result (AreKeptFramesOf (things_of after.now.core.now)) }
 {
     text.extend_from_slice(front_of(alloc, latch)?.as_bytes())?;
     let Picture::On(shown) = &latch.picture else {
         push_off(text)?;
         return Ok(screen);
     };
-    let screen = show_latch(hands, alloc, core, screen, latch, after)?;
+    let screen = show_latch(hands, alloc, after.core, screen, latch, after.latches)?;
     let kept = screen.kept(&latch.picture);
     push_frame(
         alloc,
@@ -105,35 +103,32 @@ fn push_latch<H: Hands>(
         &kept.drawn.frame,
         &kept.digest,
         &shown.mode,
-        pixmap,
+        after.pixmap,
     )?;
     Ok(screen)
 }
 
-/// Adds the line of a latch, where it is of this CRTC.
+/// Adds the line of a latch, where it is of the CRTC of those after it.
 fn push_if_on<H: Hands>(
     hands: &H,
     alloc: Global,
     text: &mut Vec<u8>,
-    core: &Core,
     screen: Screen,
-    crtc: u32,
     latch: &Latch,
-    after: &[Latch],
-    pixmap: bool,
+    after: &Told,
 ) -> Result<Screen, NoMemory>
     requires hands { H.can_work hands.now }
-    requires screen { AreKeptFramesOf (things_of core.now) screen }
-    requires latch { EachCanBeShown (things_of core.now) latch.now.picture }
-    requires after { All (λ l. EachCanBeShown (things_of core.now) l.picture) after.now }
-    ensures text { OnOk result (text.new.items
-        ≡ text.old.items ++ latches_text (machine core.now) pixmap (latch.now ∷ []) crtc) }
-    ensures screen { IfOk result (AreKeptFramesOf (things_of core.now)) }
+    requires screen { AreKeptFramesOf (things_of after.now.core.now) screen }
+    requires latch { EachCanBeShown (things_of after.now.core.now) latch.now.picture }
+    requires after { CanBeTold after.now }
+    ensures text { OnOk result (text.new.items ≡ text.old.items ++ latches_text
+        (machine after.now.core.now) after.now.pixmap (latch.now ∷ []) after.now.crtc) }
+    ensures screen { IfOk result (AreKeptFramesOf (things_of after.now.core.now)) }
 {
-    if latch.crtc != crtc {
+    if latch.crtc != after.crtc {
         return Ok(screen);
     }
-    push_latch(hands, alloc, text, core, screen, latch, after, pixmap)
+    push_latch(hands, alloc, text, screen, latch, after)
 }
 
 /// Adds the lines of the latches of a CRTC. Each frame is made of one of the two before it, at first of those that are kept, where
@@ -142,22 +137,29 @@ pub fn push_after<H: Hands>(
     hands: &H,
     alloc: Global,
     text: &mut Vec<u8>,
-    core: &Core,
+    told: &Told,
     mut screen: Screen,
-    crtc: u32,
-    latches: &[Latch],
-    pixmap: bool,
 ) -> Result<(), NoMemory>
     requires hands { H.can_work hands.now }
-    requires screen { AreKeptFramesOf (things_of core.now) screen }
-    requires can { All (λ l. EachCanBeShown (things_of core.now) l.picture) latches.now }
-    ensures { OnOk result (text.new.items ≡ text.old.items
-        ++ latches_text (machine core.now) pixmap latches.now crtc) }
+    requires screen { AreKeptFramesOf (things_of told.now.core.now) screen }
+    requires can { CanBeTold told.now }
+    ensures { OnOk result (text.new.items ≡ text.old.items ++ told_text told.now) }
 {
+    let Told {
+        core,
+        crtc,
+        latches,
+        pixmap,
+    } = *told;
     for place in 0..latches.len() {
         let latch = &latches[place];
-        let after = &latches[place + 1..];
-        screen = push_if_on(hands, alloc, text, core, screen, crtc, latch, after, pixmap)?;
+        let after = Told {
+            core,
+            crtc,
+            latches: &latches[place + 1..],
+            pixmap,
+        };
+        screen = push_if_on(hands, alloc, text, screen, latch, &after)?;
     }
     Ok(())
 }
@@ -168,16 +170,12 @@ pub fn push_latches<H: Hands>(
     hands: &H,
     alloc: Global,
     text: &mut Vec<u8>,
-    core: &Core,
-    crtc: u32,
-    latches: &[Latch],
-    pixmap: bool,
+    told: &Told,
 ) -> Result<(), NoMemory>
     requires hands { H.can_work hands.now }
-    requires can { All (λ l. EachCanBeShown (things_of core.now) l.picture) latches.now }
-    ensures { OnOk result (text.new.items ≡ text.old.items
-        ++ latches_text (machine core.now) pixmap latches.now crtc) }
+    requires can { CanBeTold told.now }
+    ensures { OnOk result (text.new.items ≡ text.old.items ++ told_text told.now) }
 {
     let screen = Screen::dark(alloc);
-    push_after(hands, alloc, text, core, screen, crtc, latches, pixmap)
+    push_after(hands, alloc, text, told, screen)
 }

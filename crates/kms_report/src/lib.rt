@@ -12,15 +12,22 @@ mod histories;
 mod images;
 mod latches;
 mod lines;
+mod makers;
 mod pixmaps;
+mod replies;
+mod right;
 mod showing;
 mod strands;
 mod tellers;
+mod told;
 
 pub use histories::{Options, report, report_with};
 use kms_compose::Frame;
 use kms_kept_frames::digest_of;
+pub use kms_kept_frames::{OneThread, SeveralThreads};
 use kms_model::{NoMemory, Seq};
+pub use makers::MakesReports;
+pub use replies::replies_text;
 use std::alloc::Global;
 
 /// The SHA-256 of a frame's bytes (FIPS 180-4), as 64 lower-case hexadecimal digits. The only error is want of memory.

@@ -1,15 +1,15 @@
 //! The digests of a CRTC's frames, made in two strands side by side.
-ghost use Rattle.std.specs.Prelude.{◌≡◌, ◌++◌, ◌<◌, All, IfOk, List, OnOk, length};
+ghost use Rattle.std.specs.Prelude.{◌≡◌, ◌++◌, IfOk, List, OnOk, length};
 ghost use Rattle.kms_model.specs.declared.worlds.Thing.{Thing};
 ghost use Rattle.kms_model.specs.Frames.Shown.{EachCanBeShown};
 ghost use Rattle.kms_report.specs.Images.{things_of};
-ghost use Rattle.kms_report.specs.Strands.{strand_digests, latch_digests};
+ghost use Rattle.kms_report.specs.Strands.{latch_digests};
+ghost use Rattle.kms_report.specs.Told.{CanBeTold, told_digests};
 ghost use Rattle.kms_kept_frames.specs.Screens.{AreKeptFramesOf};
-ghost use Rattle.kms_kept_frames.specs.Strands.{is_strand};
 ghost use Rattle.kms_kept_frames.specs.declared.strands.Strand.TheVariants as Strand;
 
 use crate::showing::show_latch;
-use kms_core::Core;
+use crate::told::Told;
 use kms_kept_frames::{OneThread, Screen, Strand, is_lit};
 use kms_model::{Latch, NoMemory};
 use std::alloc::Global;
@@ -23,22 +23,21 @@ type Digests = Vec<[u8; 32]>;
 fn push_digest(
     alloc: Global,
     digests: &mut Digests,
-    core: &Core,
+    told: &Told,
     screen: Screen,
-    crtc: u32,
     latch: &Latch,
     is_own: bool,
 ) -> Result<Screen, NoMemory>
-    requires screen { AreKeptFramesOf (things_of core.now) screen }
-    requires latch { EachCanBeShown (things_of core.now) latch.now.picture }
-    ensures digests { OnOk result (digests.new.items
-        ≡ digests.old.items ++ latch_digests (things_of core.now) crtc is_own latch.now) }
-    ensures screen { IfOk result (AreKeptFramesOf (things_of core.now)) }
+    requires screen { AreKeptFramesOf (things_of told.now.core.now) screen }
+    requires latch { EachCanBeShown (things_of told.now.core.now) latch.now.picture }
+    ensures digests { OnOk result (digests.new.items ≡ digests.old.items
+        ++ latch_digests (things_of told.now.core.now) told.now.crtc is_own latch.now) }
+    ensures screen { IfOk result (AreKeptFramesOf (things_of told.now.core.now)) }
 {
-    if !is_own || !is_lit(latch, crtc) {
+    if !is_own || !is_lit(latch, told.crtc) {
         return Ok(screen);
     }
-    let screen = show_latch(&OneThread, alloc, core, screen, latch, &[])?;
+    let screen = show_latch(&OneThread, alloc, told.core, screen, latch, &[])?;
     digests.push(screen.kept(&latch.picture).digest)?;
     Ok(screen)
 }
@@ -47,25 +46,23 @@ fn push_digest(
 /// screen keeps and leaves it dark.
 fn digests_of_strand(
     alloc: Global,
-    core: &Core,
+    told: &Told,
     screen: &mut Screen,
-    crtc: u32,
-    latches: &[Latch],
     strands: &[Strand],
     strand: Strand,
 ) -> Result<Digests, NoMemory>
-    requires screen { AreKeptFramesOf (things_of core.now) screen.old }
-    requires latches { All (λ l. EachCanBeShown (things_of core.now) l.picture) latches.now }
-    requires strands { length strands.now ≡ length latches.now }
-    ensures { IfOk result (λ digests. digests.items
-        ≡ strand_digests (things_of core.now) crtc strand latches.now strands.now) }
+    requires screen { AreKeptFramesOf (things_of told.now.core.now) screen.old }
+    requires latches { CanBeTold told.now }
+    requires strands { length strands.now ≡ length told.now.latches.now }
+    ensures { IfOk result (λ digests. digests.items ≡ told_digests told.now strand strands.now) }
 {
     let mut own = mem::replace(screen, Screen::dark(alloc));
     let mut digests = Vec::new(alloc);
+    let latches = told.latches;
     for place in 0..latches.len() {
         let is_own = strand.is(strands[place]);
         let latch = &latches[place];
-        own = push_digest(alloc, &mut digests, core, own, crtc, latch, is_own)?;
+        own = push_digest(alloc, &mut digests, told, own, latch, is_own)?;
     }
     Ok(digests)
 }
@@ -90,45 +87,31 @@ fn split_screen(alloc: Global, screen: Screen) -> (Screen, Screen)
 pub fn digests_by_strands<R: Threads>(
     rt: &R,
     alloc: Global,
-    core: &Core,
+    told: &Told,
     screen: Screen,
-    crtc: u32,
-    latches: &[Latch],
     strands: &[Strand],
 ) -> Result<(Digests, Digests), NoMemory>
-    requires screen { AreKeptFramesOf (things_of core.now) screen }
-    requires latches { All (λ l. EachCanBeShown (things_of core.now) l.picture) latches.now }
-    requires strands { length strands.now ≡ length latches.now }
+    requires screen { AreKeptFramesOf (things_of told.now.core.now) screen }
+    requires latches { CanBeTold told.now }
+    requires strands { length strands.now ≡ length told.now.latches.now }
     ensures first { IfOk result (λ both. both.0.items
-        ≡ strand_digests (things_of core.now) crtc Strand.First latches.now strands.now) }
+        ≡ told_digests told.now Strand.First strands.now) }
     ensures second { IfOk result (λ both. both.1.items
-        ≡ strand_digests (things_of core.now) crtc Strand.Second latches.now strands.now) }
+        ≡ told_digests told.now Strand.Second strands.now) }
 {
     let (mut one, mut other) = split_screen(alloc, screen);
     let mut first = || -> Result<Digests, NoMemory>
-        requires { AreKeptFramesOf (things_of core.now) one
-            × All (λ l. EachCanBeShown (things_of core.now) l.picture) latches.now
-            × (length strands.now ≡ length latches.now) }
+        requires { AreKeptFramesOf (things_of told.now.core.now) one × CanBeTold told.now
+            × (length strands.now ≡ length told.now.latches.now) }
         ensures { IfOk result (λ digests. digests.items
-            ≡ strand_digests (things_of core.entry.now) crtc Strand.First latches.entry.now strands.entry.now) }
-    { digests_of_strand(alloc, core, &mut one, crtc, latches, strands, Strand::First) };
+            ≡ told_digests told.entry.now Strand.First strands.entry.now) }
+    { digests_of_strand(alloc, told, &mut one, strands, Strand::First) };
     let mut second = || -> Result<Digests, NoMemory>
-        requires { AreKeptFramesOf (things_of core.now) other
-            × All (λ l. EachCanBeShown (things_of core.now) l.picture) latches.now
-            × (length strands.now ≡ length latches.now) }
+        requires { AreKeptFramesOf (things_of told.now.core.now) other × CanBeTold told.now
+            × (length strands.now ≡ length told.now.latches.now) }
         ensures { IfOk result (λ digests. digests.items
-            ≡ strand_digests (things_of core.entry.now) crtc Strand.Second latches.entry.now strands.entry.now) }
-    {
-        digests_of_strand(
-            alloc,
-            core,
-            &mut other,
-            crtc,
-            latches,
-            strands,
-            Strand::Second,
-        )
-    };
+            ≡ told_digests told.entry.now Strand.Second strands.entry.now) }
+    { digests_of_strand(alloc, told, &mut other, strands, Strand::Second) };
     let (of_first, of_second) = join_mut(rt, &mut first, &mut second);
     Ok((of_first?, of_second?))
 }

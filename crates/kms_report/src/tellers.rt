@@ -1,17 +1,18 @@
 //! Who tells of latches: one thread, or several, of which two make frames side by side.
-ghost use Rattle.std.specs.Prelude.{◌≡◌, ◌++◌, ◌∷◌, [], ℕ, List, false, length, ◌<◌, All, IfOk, IfSome, OnOk};
+ghost use Rattle.std.specs.Prelude.{◌≡◌, ◌++◌, ◌∷◌, [], ℕ, List, false, length, ◌<◌, IfOk, IfSome, OnOk};
 ghost use Rattle.std.specs.Thread.{IsSync};
 ghost use Rattle.kms_core.specs.Run.{machine};
-ghost use Rattle.kms_model.specs.Frames.Shown.{EachCanBeShown};
 ghost use Rattle.kms_report.specs.Images.{things_of};
-ghost use Rattle.kms_report.specs.Strands.{Begins, strand_digests};
+ghost use Rattle.kms_report.specs.Strands.{Begins};
 ghost use Rattle.kms_report.specs.Telling.{latches_text};
+ghost use Rattle.kms_report.specs.Told.{CanBeTold, told_digests, told_text};
 ghost use Rattle.kms_kept_frames.specs.Screens.{AreKeptFramesOf};
 ghost use Rattle.kms_kept_frames.specs.declared.strands.Strand.TheVariants as Strand;
 
 use crate::latches::{front_of, push_after, push_digits, push_latches, push_off};
 use crate::showing::show_latch;
 use crate::strands::digests_by_strands;
+use crate::told::Told;
 use kms_core::Core;
 use kms_kept_frames::{OneThread, Screen, SeveralThreads, Strand, is_lit, strands_of};
 use kms_model::{Latch, NoMemory, Picture};
@@ -53,21 +54,23 @@ fn push_told<'a>(
 fn push_all_told(
     alloc: Global,
     text: &mut Vec<u8>,
-    core: &Core,
-    crtc: u32,
-    latches: &[Latch],
+    told: &Told,
     strands: &[Strand],
     mut first: &[[u8; 32]],
     mut second: &[[u8; 32]],
 ) -> Result<(), NoMemory>
-    requires strands { length strands.now ≡ length latches.now }
-    requires first { first.now
-        ≡ strand_digests (things_of core.now) crtc Strand.First latches.now strands.now }
-    requires second { second.now
-        ≡ strand_digests (things_of core.now) crtc Strand.Second latches.now strands.now }
+    requires strands { length strands.now ≡ length told.now.latches.now }
+    requires first { first.now ≡ told_digests told.now Strand.First strands.now }
+    requires second { second.now ≡ told_digests told.now Strand.Second strands.now }
     ensures { OnOk result (text.new.items ≡ text.old.items
-        ++ latches_text (machine core.now) false latches.now crtc) }
+        ++ latches_text (machine told.now.core.now) false told.now.latches.now told.now.crtc) }
 {
+    let Told {
+        core,
+        crtc,
+        latches,
+        ..
+    } = *told;
     for place in 0..latches.len() {
         let latch = &latches[place];
         match strands[place] {
@@ -105,25 +108,23 @@ fn push_shown<R: Threads + Sync>(
     hands: &SeveralThreads<'_, R>,
     alloc: Global,
     text: &mut Vec<u8>,
-    core: &Core,
+    told: &Told,
     screen: Screen,
-    crtc: u32,
-    latches: &[Latch],
 ) -> Result<(), NoMemory>
     requires hands { IsSync R.row }
-    requires screen { AreKeptFramesOf (things_of core.now) screen }
-    requires can { All (λ l. EachCanBeShown (things_of core.now) l.picture) latches.now }
-    ensures { OnOk result (text.new.items ≡ text.old.items
-        ++ latches_text (machine core.now) false latches.now crtc) }
+    requires screen { AreKeptFramesOf (things_of told.now.core.now) screen }
+    requires can { CanBeTold told.now }
+    requires pixmap { told.now.pixmap ≡ false }
+    ensures { OnOk result (text.new.items ≡ text.old.items ++ told_text told.now) }
 {
     if !are_large(&screen) {
-        return push_after(hands, alloc, text, core, screen, crtc, latches, false);
+        return push_after(hands, alloc, text, told, screen);
     }
-    let strands = strands_of(alloc, crtc, latches)?;
+    let strands = strands_of(alloc, told.crtc, told.latches)?;
     let strands = strands.as_slice();
-    let digests = digests_by_strands(hands.rt, alloc, core, screen, crtc, latches, strands)?;
+    let digests = digests_by_strands(hands.rt, alloc, told, screen, strands)?;
     let (first, second) = (digests.0.as_slice(), digests.1.as_slice());
-    push_all_told(alloc, text, core, crtc, latches, strands, first, second)
+    push_all_told(alloc, text, told, strands, first, second)
 }
 
 /// Adds the lines of the latches of a CRTC. Its first frame is made by several threads, and so is the next other one,
@@ -132,22 +133,21 @@ fn push_by_strands<R: Threads + Sync>(
     hands: &SeveralThreads<'_, R>,
     alloc: Global,
     text: &mut Vec<u8>,
-    core: &Core,
-    crtc: u32,
-    latches: &[Latch],
+    told: &Told,
 ) -> Result<(), NoMemory>
     requires hands { IsSync R.row }
-    requires can { All (λ l. EachCanBeShown (things_of core.now) l.picture) latches.now }
-    ensures { OnOk result (text.new.items ≡ text.old.items
-        ++ latches_text (machine core.now) false latches.now crtc) }
+    requires can { CanBeTold told.now }
+    requires pixmap { told.now.pixmap ≡ false }
+    ensures { OnOk result (text.new.items ≡ text.old.items ++ told_text told.now) }
 {
-    let Some(place) = first_lit(crtc, latches) else {
-        return push_latches(hands, alloc, text, core, crtc, latches, false);
+    let latches = told.latches;
+    let Some(place) = first_lit(told.crtc, latches) else {
+        return push_latches(hands, alloc, text, told);
     };
     let dark = Screen::dark(alloc);
     let (latch, after) = (&latches[place], &latches[place + 1..]);
-    let screen = show_latch(hands, alloc, core, dark, latch, after)?;
-    push_shown(hands, alloc, text, core, screen, crtc, latches)
+    let screen = show_latch(hands, alloc, told.core, dark, latch, after)?;
+    push_shown(hands, alloc, text, told, screen)
 }
 
 /// Who tells of latches.
@@ -155,21 +155,12 @@ pub trait Tells {
     // They may be at work in several threads.
     ghost can_tell: { Self → Type 0 };
 
-    /// Adds the lines of the latches of the CRTC with an index, from 0 to 3, of all latches in order of time, each with
-    /// its frame as a pixmap behind it where that is wanted. The only error is want of memory.
-    fn push(
-        &self,
-        alloc: Global,
-        text: &mut Vec<u8>,
-        core: &Core,
-        crtc: u32,
-        latches: &[Latch],
-        pixmap: bool,
-    ) -> Result<(), NoMemory>
+    /// Adds the lines of the latches of a CRTC, each with its frame as a pixmap behind it where that is wanted. The only error is
+    /// want of memory.
+    fn push(&self, alloc: Global, text: &mut Vec<u8>, told: &Told) -> Result<(), NoMemory>
         requires can { can_tell self.now }
-        requires latches { All (λ l. EachCanBeShown (things_of core.now) l.picture) latches.now }
-        ensures { OnOk result (text.new.items ≡ text.old.items
-            ++ latches_text (machine core.now) pixmap latches.now crtc) };
+        requires latches { CanBeTold told.now }
+        ensures { OnOk result (text.new.items ≡ text.old.items ++ told_text told.now) };
 }
 
 impl Tells for OneThread {
@@ -177,16 +168,8 @@ impl Tells for OneThread {
 
     ghost can_tell = { λ _. ⊤ };
 
-    fn push(
-        &self,
-        alloc: Global,
-        text: &mut Vec<u8>,
-        core: &Core,
-        crtc: u32,
-        latches: &[Latch],
-        pixmap: bool,
-    ) -> Result<(), NoMemory> {
-        push_latches(self, alloc, text, core, crtc, latches, pixmap)
+    fn push(&self, alloc: Global, text: &mut Vec<u8>, told: &Told) -> Result<(), NoMemory> {
+        push_latches(self, alloc, text, told)
     }
 }
 
@@ -195,19 +178,11 @@ impl<'a, R: Threads + Sync> Tells for SeveralThreads<'a, R> {
 
     ghost can_tell = { λ _. IsSync R.row };
 
-    fn push(
-        &self,
-        alloc: Global,
-        text: &mut Vec<u8>,
-        core: &Core,
-        crtc: u32,
-        latches: &[Latch],
-        pixmap: bool,
-    ) -> Result<(), NoMemory> {
-        if pixmap {
-            push_latches(self, alloc, text, core, crtc, latches, pixmap)
+    fn push(&self, alloc: Global, text: &mut Vec<u8>, told: &Told) -> Result<(), NoMemory> {
+        if told.pixmap {
+            push_latches(self, alloc, text, told)
         } else {
-            push_by_strands(self, alloc, text, core, crtc, latches)
+            push_by_strands(self, alloc, text, told)
         }
     }
 }

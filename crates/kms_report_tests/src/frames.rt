@@ -6,16 +6,14 @@ ghost use Rattle.kms_report_tests.specs.Spots.{spot_fb};
 use crate::spots::{OPAQUE, Spot, View, WORDS, images, picture};
 use kms_compose::{Images, frame, frame_rows, recompose, recompose_kept};
 use kms_model::Picture;
-use std::alloc::Global;
 use std::process::Abort;
 use std::test::Fail;
 use std::thread::Threads;
 
 /// Ends the test where the frame of a picture, made of that of another one, keeps another number of bytes, or is another than
 /// the one that threads make, or is not made back.
-fn assert_kept<R: Abort + Threads + Sync>(
+fn assert_kept<R: Abort + AllocGlobal + Threads + Sync>(
     rt: &R,
-    alloc: Global,
     images: &Images,
     old: &Picture,
     new: &Picture,
@@ -25,6 +23,7 @@ fn assert_kept<R: Abort + Threads + Sync>(
     requires old { CanShow images.now old.now }
     requires new { CanShow images.now new.now }
 {
+    let alloc = rt.alloc();
     let first = frame(alloc, old, images)?;
     let mut bytes = frame(alloc, old, images)?;
     let count = recompose_kept(alloc, &mut bytes, old, new, images)?;
@@ -80,9 +79,8 @@ fn view(spots: [Spot; 2]) -> View {
 }
 
 /// Ends the test where a case is not as it is wanted.
-fn assert_case<R: Abort + Threads + Sync>(
+fn assert_case<R: Abort + AllocGlobal + Threads + Sync>(
     rt: &R,
-    alloc: Global,
     images: &Images,
     case: &Case,
     place: usize,
@@ -91,14 +89,14 @@ fn assert_case<R: Abort + Threads + Sync>(
 {
     let old = picture(&view(case.0));
     let new = picture(&view(case.1));
-    assert_kept(rt, alloc, images, &old, &new, case.2, place)
+    assert_kept(rt, images, &old, &new, case.2, place)
 }
 
 #[test]
 fn rows_above_all_that_is_drawn_are_kept(rt: HostRuntime) -> Result<(), Fail> {
     let images = images(rt.alloc(), &WORDS)?;
     for (place, case) in CASES.iter().enumerate() {
-        assert_case(&rt, rt.alloc(), &images, case, place)?;
+        assert_case(&rt, &images, case, place)?;
     }
     Ok(())
 }
@@ -117,8 +115,8 @@ fn no_row_is_kept_where_each_is_made_anew(rt: HostRuntime) -> Result<(), Fail> {
         size: (4, 7),
         ..plain
     });
-    assert_kept(&rt, rt.alloc(), &images, &old, &flat, 0, 0)?;
-    assert_kept(&rt, rt.alloc(), &images, &old, &longer, 0, 1)?;
-    assert_kept(&rt, rt.alloc(), &images, &old, &Picture::Off, 0, 2)?;
-    assert_kept(&rt, rt.alloc(), &images, &Picture::Off, &old, 0, 3)
+    assert_kept(&rt, &images, &old, &flat, 0, 0)?;
+    assert_kept(&rt, &images, &old, &longer, 0, 1)?;
+    assert_kept(&rt, &images, &old, &Picture::Off, 0, 2)?;
+    assert_kept(&rt, &images, &Picture::Off, &old, 0, 3)
 }

@@ -7,7 +7,7 @@ ghost use Rattle.kms_kept_frames.specs.Screens.{AreKeptFramesOver};
 
 use crate::spots::{OPAQUE, Spot, View, WORDS, images, picture};
 use kms_compose::{Frame, Images};
-use kms_kept_frames::{Drawn, Fronts, Hands, OneThread, Screen, SeveralThreads};
+use kms_kept_frames::{Fronts, Hands, OneThread, Screen, SeveralThreads};
 use kms_model::{NoMemory, Picture};
 use std::alloc::Global;
 use std::cell::Cell;
@@ -46,13 +46,12 @@ impl Hands for Counting {
     fn renew(
         &self,
         alloc: Global,
-        one: &mut Drawn,
+        screen: Screen,
         picture: &Picture,
-        other: &mut Drawn,
         next: &Picture,
         images: &Images,
-    ) -> (Result<[u8; 32], NoMemory>, Result<[u8; 32], NoMemory>) {
-        OneThread.renew(alloc, one, picture, other, next, images)
+    ) -> Result<Screen, NoMemory> {
+        OneThread.renew(alloc, screen, picture, next, images)
     }
 }
 

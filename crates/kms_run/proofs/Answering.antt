@@ -9,7 +9,8 @@ use Rattle.kms_run.specs.Answers.{Answers}
 use Rattle.kms_run.specs.Executing.{TellsReport}
 use Rattle.kms_run.specs.Words.{part_of}
 
-pub answers_told : (asked : Execution) (input : List ℕ) (parts : Parts) (result : Result FullReport NoAnswer) → input_of (part_of asked.action) input ≡ Ok parts
+pub answers_told : (asked : Execution) (input : List ℕ) (parts : Parts) (result : Result FullReport NoAnswer)
+    → input_of (part_of asked.action) input ≡ Ok parts
     → TellsReport asked parts.script parts.steps result → Answers asked input result
 answers_told asked input parts (Ok report) spelled told = record { parts = parts; spelled = spelled; report = told }
 answers_told asked input parts (Err (stops.Fault line why)) spelled told = absurd told

@@ -14,7 +14,8 @@ pub run_of : (s : Script) (d : SharedDevice) (passes : List DevicePass) (result 
     → d.script ≡ s → IfOk result (IsFinishedOf d passes) → IfOk result (IsRunOf s)
 run_of s d passes (Ok r) same f = record {
   script = f.script ∙ same;
-  is_continued = subst (λ s. IsContinued s r.steps) (sym f.script) (record { left = f.left; is_history = f.is_history; is_finished = f.is_finished });
+  is_continued = subst (λ s. IsContinued s r.steps) (sym f.script)
+      (record { left = f.left; is_history = f.is_history; is_finished = f.is_finished });
   is_over = subst (λ s. IsOver s r.steps) (sym f.script) f.is_over;
 }
 run_of s d passes (Err e) same f = tt

@@ -5,3 +5,5 @@ pub mod Counted
 pub mod Summed
 pub mod Seats
 pub mod Continued
+pub mod Sleeping
+pub mod Saying

@@ -6,4 +6,5 @@ use Rattle.kms_run.specs.Outcome.{Wrote}
 
 pub moved_on : (left left' written written' : Option (List ℕ)) (input : List ℕ) (P : List ℕ → List ℕ → Type 0)
     → Consumes left left' input → Wrote written written' (P input) → Moved left left' written written' P
-moved_on left left' written written' input P taken wrote = record { took = input; put = wrote.put; taken = taken; added = wrote.added; holds = wrote.holds }
+moved_on left left' written written' input P taken wrote =
+    record { took = input; put = wrote.put; taken = taken; added = wrote.added; holds = wrote.holds }

@@ -18,7 +18,8 @@ pub illegal_first : (old : Run) (steps : List Step) → old.steps ≡ [] → ill
 illegal_first old steps empty = ap (λ h. first_illegal old.script (at old.script h) 1 steps) empty ∙ at_first old.script steps
 
 -- the step at which a replay stops is the first of the schedule that is not legal
-pub illegal_of : (old new : Run) (steps : List Step) (place : ℕ) (e : ReplayError) → e ≡ Illegal place → old.steps ≡ [] → Stops old steps new e
+pub illegal_of : (old new : Run) (steps : List Step) (place : ℕ) (e : ReplayError) → e ≡ Illegal place
+    → old.steps ≡ [] → Stops old steps new e
     → IsIllegalOf Replay old.script steps place
 illegal_of old new steps place e is empty stops = from (subst (Stops old steps new) is stops) where
   from : Stops old steps new (Illegal place) → IsIllegalOf Replay old.script steps place

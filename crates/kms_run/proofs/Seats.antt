@@ -1,5 +1,6 @@
 -- The passes of a device, and those that come back from its players.
-use Rattle.std.proofs.Common.{◌≡◌, ℕ, zero, suc, ◌+◌, ◌≤◌, Bool, true, ◌==◌, ◌||◌, List, [], ◌∷◌, ◌++◌, length, map, refl, sym, ap, subst, ◌∙◌, arith}
+use Rattle.std.proofs.Common.{◌≡◌, ℕ, zero, suc, ◌+◌, ◌≤◌, Bool, true, ◌==◌, ◌||◌, List, [], ◌∷◌}
+use Rattle.std.proofs.Common.{◌++◌, length, map, refl, sym, ap, subst, ◌∙◌, arith}
 use Rattle.std.specs.Prelude.{All, Any, IsPermutation, false, nat_le, if◌then◌else◌}
 use Rattle.std.specs.List.{list_any}
 use Rattle.std.proofs.lemmas.Bool.{eqb-true}
@@ -19,7 +20,8 @@ pub new_seats : (d : SharedDevice) (n : ℕ) → n ≤ seats_for d.script → Al
 new_seats d zero l = All-nil (IsSeat d)
 new_seats d (suc n) l =
     All-append (IsSeat d) (new_passes d.lock n) (new_pass d.lock (n + 1) ∷ []) (new_seats d n (omega (arith, l)))
-    (All-cons (IsSeat d) (new_pass d.lock (n + 1)) [] (record { own = refl; low = omega arith; high = omega (arith, l) }) (All-nil (IsSeat d)))
+    (All-cons (IsSeat d) (new_pass d.lock (n + 1)) []
+    (record { own = refl; low = omega arith; high = omega (arith, l) }) (All-nil (IsSeat d)))
 
 module _ (lock : LockName Script) where
   abbrev passes : ℕ → List DevicePass
@@ -36,7 +38,8 @@ module _ (lock : LockName Script) where
     mapped : (ps : List DevicePass) → All (λ p. p.lock ≡ lock) ps → All IsOfLock (map name_of_pass ps)
     mapped [] h = All-nil IsOfLock
     mapped (p ∷ ps) h =
-        All-cons IsOfLock (name_of_pass p) (map name_of_pass ps) (All-head (λ p. p.lock ≡ lock) p ps h) (mapped ps (All-tail (λ p. p.lock ≡ lock) p ps h))
+        All-cons IsOfLock (name_of_pass p) (map name_of_pass ps) (All-head (λ p. p.lock ≡ lock) p ps h)
+        (mapped ps (All-tail (λ p. p.lock ≡ lock) p ps h))
 
     own : (n : ℕ) → All (λ p. p.lock ≡ lock) (passes n)
     own zero = All-nil (λ p. p.lock ≡ lock)
@@ -78,14 +81,16 @@ module _ (G : Type 0) (d : SharedDevice) where
   -- whoever plays with a pass has its name
   player_name : (p : DevicePass) → name_of_pass (pass_of (player_of {G = G} d p)) ≡ name_of_pass p
   player_name p = by (nat_le p.rank (length d.script.clients)) (nat_le p.rank (length d.script.clients + 4)) where
-    by : (a b : Bool) → name_of_pass (pass_of (if a then client_player {G = G} d p else (if b then worker_of d p else tick_of d p))) ≡ name_of_pass p
+    by : (a b : Bool)
+        → name_of_pass (pass_of (if a then client_player {G = G} d p else (if b then worker_of d p else tick_of d p))) ≡ name_of_pass p
     by true b = refl
     by false true = refl
     by false false = refl
 
   pub player_names : (ps : List DevicePass) → map (λ p. name_of_pass (pass_of p)) (map (player_of {G = G} d) ps) ≡ map name_of_pass ps
   player_names [] = refl
-  player_names (p ∷ ps) = ap (λ n. n ∷ map (λ p. name_of_pass (pass_of p)) (map (player_of {G = G} d) ps)) (player_name p) ∙ ap (λ ns. name_of_pass p ∷ ns) (player_names ps)
+  player_names (p ∷ ps) = ap (λ n. n ∷ map (λ p. name_of_pass (pass_of p)) (map (player_of {G = G} d) ps)) (player_name p)
+      ∙ ap (λ ns. name_of_pass p ∷ ns) (player_names ps)
 
 -- an item that is done, and its like that is left no more, have one name
 done_next : {A B C : Type 0} (f : A → C) (g : B → C) (done : List A) (x : A) (y : B) (rest : List B)
@@ -107,19 +112,22 @@ all_done f g done all (y ∷ left) size names was none long same = absurd (omega
 
 -- what comes back of the players of all passes
 pub all_back : (d : SharedDevice) (n : ℕ) (given back : List DevicePass) (names names' : List PlayerName)
-    → d.seats ≡ n → given ≡ new_passes d.lock n → names ≡ map name_of_pass given → IsPermutation names names' → map name_of_pass back ≡ names' → AreAllPasses d back
+    → d.seats ≡ n → given ≡ new_passes d.lock n → names ≡ map name_of_pass given → IsPermutation names names'
+    → map name_of_pass back ≡ names' → AreAllPasses d back
 all_back d n given back names names' seats new named moved named' =
     let all : names ≡ map name_of_pass (new_passes d.lock d.seats) = named ∙ ap (map name_of_pass) (new ∙ ap (passes d.lock) (sym seats)) in
     subst (λ ns. IsPermutation ns (map name_of_pass back)) all (subst (IsPermutation names) (sym named') moved)
 
 -- All passes are of the device's lock,
 pub all_own : (d : SharedDevice) (back : List DevicePass) → AreAllPasses d back → All (λ p. p.lock ≡ d.lock) back
-all_own d back all = named back (All-permutation (IsOfLock d.lock) (map name_of_pass (new_passes d.lock d.seats)) (map name_of_pass back) all (names_own d.lock d.seats)) where
-  named : (ps : List DevicePass) → All (IsOfLock d.lock) (map name_of_pass ps) → All (λ p. p.lock ≡ d.lock) ps
-  named [] h = All-nil (λ p. p.lock ≡ d.lock)
-  named (p ∷ ps) h =
-      All-cons (λ p. p.lock ≡ d.lock) p ps (All-head (IsOfLock d.lock) (name_of_pass p) (map name_of_pass ps) h)
-      (named ps (All-tail (IsOfLock d.lock) (name_of_pass p) (map name_of_pass ps) h))
+all_own d back all = named back
+    (All-permutation (IsOfLock d.lock) (map name_of_pass (new_passes d.lock d.seats)) (map name_of_pass back) all
+    (names_own d.lock d.seats)) where
+      named : (ps : List DevicePass) → All (IsOfLock d.lock) (map name_of_pass ps) → All (λ p. p.lock ≡ d.lock) ps
+      named [] h = All-nil (λ p. p.lock ≡ d.lock)
+      named (p ∷ ps) h =
+          All-cons (λ p. p.lock ≡ d.lock) p ps (All-head (IsOfLock d.lock) (name_of_pass p) (map name_of_pass ps) h)
+          (named ps (All-tail (IsOfLock d.lock) (name_of_pass p) (map name_of_pass ps) h))
 
 -- they are as many as it has seats,
 pub all_count : (d : SharedDevice) (back : List DevicePass) → AreAllPasses d back → length back ≡ d.seats

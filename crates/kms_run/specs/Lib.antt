@@ -4,6 +4,8 @@ pub mod Executing
 pub mod Running
 pub mod Summary
 pub mod Counting
+pub mod Slept
+pub mod Auditing
 pub mod StatusText
 pub mod Outcome
 pub mod Translation

@@ -19,6 +19,7 @@ status_number status.NoMemory = 6
 status_number (status.Illegal at) = 7
 status_number status.Open = 8
 status_number (status.AuditNo line) = 9
+status_number (status.Closed object) = 10
 
 abbrev pub why_text : Why → List ℕ
 why_text Bytes = codes "bytes"
@@ -31,13 +32,14 @@ abbrev pub status_text : Status → List ℕ
 status_text status.Ok = []
 status_text status.ReadFault = codes "kms: read fault"
 status_text status.WriteFault = codes "kms: write fault"
-status_text status.Usage = codes "kms: usage: kms one, replay, run, gen, audit, legacy"
+status_text status.Usage = codes "kms: usage: kms one, replay, run, gen, audit, legacy, suspend"
 status_text (status.Script line why) = codes "kms: line " ++ decimal line ++ codes ": " ++ why_text why
 status_text status.Stalled = codes "kms: stalled"
 status_text status.NoMemory = codes "kms: out of memory"
 status_text (status.Illegal at) = codes "kms: event " ++ decimal at ++ codes " is not legal"
 status_text status.Open = codes "kms: open"
 status_text (status.AuditNo line) = codes "kms: audit: line " ++ decimal line
+status_text (status.Closed object) = codes "kms: closed " ++ decimal object.0
 
 -- the status of a run whose report is written
 abbrev pub status_of : End → Status

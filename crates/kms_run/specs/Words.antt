@@ -1,5 +1,6 @@
 -- The words of the command line, without the program's own name. This device's own.
-use Rattle.std.specs.Prelude.{ℕ, ◌≤◌, ◌^◌, ◌-◌, ◌==◌, Bool, true, false, not, ◌&&◌, List, [], ◌∷◌, codes, Option, Some, None, if◌then◌else◌, ⊤}
+use Rattle.std.specs.Prelude.{ℕ, ◌≤◌, ◌^◌, ◌-◌, ◌==◌, Bool, true, false, not, ◌&&◌, List}
+use Rattle.std.specs.Prelude.{[], ◌∷◌, codes, Option, Some, None, if◌then◌else◌, ⊤}
 use Rattle.std.specs.Str.{bytes_eq}
 use Rattle.kms_model.specs.declared.scripts.Part.{Part}
 use Rattle.kms_model.specs.declared.scripts.Part.TheVariants as part
@@ -8,12 +9,13 @@ use Rattle.kms_model.specs.Script.Words.{◌>>=◌, dec}
 use Rattle.kms_run.specs.declared.words.Action.{Action}
 use Rattle.kms_run.specs.declared.words.Action.TheVariants.{One, Replay, Run}
 use Rattle.kms_run.specs.declared.words.Task.{Task}
-use Rattle.kms_run.specs.declared.words.Task.TheVariants.{Execute, Generate, Translate}
+use Rattle.kms_run.specs.declared.words.Task.TheVariants.{Audit, Execute, Generate, Suspend, Translate}
 use Rattle.kms_run.specs.declared.words.Count.{Count}
 use Rattle.kms_run.specs.declared.words.Count.TheVariants.{Untold, Awaited, Told}
 use Rattle.kms_run.specs.declared.words.Execution.{Execution}
 use Rattle.kms_run.specs.declared.words.Generation.{Generation}
 use Rattle.kms_run.specs.declared.words.RunWords.{RunWords}
+use Rattle.kms_run.specs.declared.words.ThreadedRun.{ThreadedRun}
 
 -- the action that the first word names, but for `run`
 abbrev pub action_of : List ℕ → Option Action
@@ -51,6 +53,10 @@ execution_of word words = do
   action ← action_of word
   options ← options_after no_options words
   Some (record { action = action; options = options })
+
+-- what `run` asks for, as what is done with a script
+abbrev pub run_execution : ThreadedRun → Execution
+run_execution asks = record { action = Run asks.threads; options = asks.options }
 
 -- the number from 1 to the most that a word spells
 unfoldable pub number_in_word : ℕ → List ℕ → Option ℕ
@@ -100,20 +106,39 @@ abbrev pub translation_of : List (List ℕ) → Option Task
 translation_of [] = Some Translate
 translation_of (word ∷ words) = None
 
--- What the legal words ask for: `gen`, `run`, `legacy`, or `one` and `replay`. All other words are not legal.
+-- what `suspend` asks for, which no word follows
+abbrev pub suspension_of : List (List ℕ) → Option Task
+suspension_of [] = Some Suspend
+suspension_of (word ∷ words) = None
+
+-- what `audit` asks for, which no word follows
+abbrev pub audit_of : List (List ℕ) → Option Task
+audit_of [] = Some Audit
+audit_of (word ∷ words) = None
+
+-- `legacy`, `suspend`, `audit`, or `one` and `replay`: one thread does what these ask for
+unfoldable pub asked_of_one : List ℕ → List (List ℕ) → Option Task
+asked_of_one word words =
+    if bytes_eq word (codes "legacy") then translation_of words
+    else (if bytes_eq word (codes "suspend") then suspension_of words
+    else (if bytes_eq word (codes "audit") then audit_of words
+    else execution_of word words >>= (λ asks. Some (Execute asks))))
+
+-- What the legal words ask for: `gen`, `run`, `legacy`, `suspend`, `audit`, or `one` and `replay`. All other words are not legal.
 unfoldable pub asked : List (List ℕ) → Option Task
 asked [] = None
 asked (word ∷ words) =
     if bytes_eq word (codes "gen") then generation_of words >>= (λ asks. Some (Generate asks))
     else (if bytes_eq word (codes "run") then run_after no_words words >>= (λ asks. Some (Execute asks))
-    else (if bytes_eq word (codes "legacy") then translation_of words
-    else execution_of word words >>= (λ asks. Some (Execute asks))))
+    else asked_of_one word words)
 
 -- what is asked for is a run
 abbrev pub asks_run : Option Task → Bool
 asks_run (Some (Execute asks)) = needs_threads asks.action
 asks_run (Some (Generate asks)) = false
 asks_run (Some Translate) = false
+asks_run (Some Suspend) = false
+asks_run (Some Audit) = false
 asks_run None = false
 
 -- the words are legal words of `run`
@@ -143,3 +168,5 @@ abbrev pub AsksForFew : Task → Type 0
 AsksForFew (Execute asks) = HasFewThreads asks.action
 AsksForFew (Generate asks) = HasFewCommits asks
 AsksForFew Translate = ⊤
+AsksForFew Suspend = ⊤
+AsksForFew Audit = ⊤

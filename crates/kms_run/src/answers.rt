@@ -1,5 +1,6 @@
 //! What the program says to an input.
 ghost use Rattle.std.specs.Prelude.{◌≡◌, [], false, IfErr, IfOk, OnOk};
+ghost use Rattle.kms_model.specs.Script.WellFormed.{IsWellFormed};
 ghost use Rattle.kms_run.specs.Answers.{Answers, IsMade, IsReportOf};
 ghost use Rattle.kms_run.specs.Executing.{IsStopped, MayEnd, TellsReport};
 ghost use Rattle.kms_run.specs.Words.{needs_threads};
@@ -8,10 +9,9 @@ use crate::words::{Action, Execution};
 use kms_core::Core;
 use kms_model::{NoMemory, Seq, Step, Why};
 use kms_one_thread::{End, ReplayError, end_of, finish, replay};
-use kms_report::report_with;
+use kms_report::MakesReports;
 use kms_script::{ParseError, Parsed, parse};
 use std::alloc::Global;
-use std::thread::Threads;
 
 /// A report, and how the history ended that it tells.
 #[derive(Drop)]
@@ -95,13 +95,14 @@ fn execute(
 }
 
 /// The report of the history that was made of a script and a schedule as was asked for.
-pub(crate) fn full_report<R: Threads + Sync>(
-    rt: &R,
+pub(crate) fn full_report<M: MakesReports>(
+    maker: &M,
     alloc: Global,
     core: &Core,
     asked: &Execution,
     schedule: &[Step],
 ) -> Result<FullReport, NoMemory>
+    requires maker { M.can_make maker.now }
     requires made { IsMade asked.now.action core.now.script schedule.now core.now.steps }
     requires over { MayEnd asked.now.action core.now }
     ensures { IfOk result (λ answer.
@@ -110,40 +111,73 @@ pub(crate) fn full_report<R: Threads + Sync>(
     core.is_a_history();
     core.shows_its_journal();
     Ok(FullReport {
-        text: report_with(rt, alloc, core.script(), core, asked.options)?,
+        text: maker.report(alloc, core.script(), core, asked.options)?,
         ended: end_of(core),
     })
 }
 
 /// Does what is asked for on a machine before its first step, and reports it.
-fn execute_and_report<R: Threads + Sync>(
-    rt: &R,
+fn execute_and_report<M: MakesReports>(
+    maker: &M,
     alloc: Global,
     core: &mut Core,
     asked: &Execution,
     schedule: &[Step],
 ) -> Result<FullReport, NoAnswer>
+    requires maker { M.can_make maker.now }
     requires start { core.old.steps ≡ [] }
     requires alone { needs_threads asked.now.action ≡ false }
     ensures { TellsReport asked.now core.old.script schedule.now result }
 {
     execute(alloc, core, asked.action, schedule)?;
-    Ok(full_report(rt, alloc, core, asked, schedule)?)
+    Ok(full_report(maker, alloc, core, asked, schedule)?)
+}
+
+/// The report of what is asked for, but a run, with a script and a schedule that were read.
+fn parts_answer<M: MakesReports>(
+    maker: &M,
+    alloc: Global,
+    parsed: Parsed,
+    asked: &Execution,
+) -> Result<FullReport, NoAnswer>
+    requires maker { M.can_make maker.now }
+    requires formed { IsWellFormed parsed.script }
+    requires alone { needs_threads asked.now.action ≡ false }
+    ensures { TellsReport asked.now parsed.script parsed.steps result }
+{
+    let steps = parsed.steps;
+    let mut core = Core::new(alloc, parsed.script)?;
+    execute_and_report(maker, alloc, &mut core, asked, steps.as_slice())
 }
 
 /// The report of what is asked for, but a run, with the script that an input spells; or the input's first fault, or the first
 /// step of its schedule that is not legal. The input's bytes are given up before anything is executed.
-pub fn answer<R: Threads + Sync>(
-    rt: &R,
+pub fn answer<M: MakesReports>(
+    maker: &M,
     alloc: Global,
     input: Vec<u8>,
     asked: &Execution,
 ) -> Result<FullReport, NoAnswer>
-    requires { needs_threads asked.now.action ≡ false }
+    requires maker { M.can_make maker.now }
+    requires alone { needs_threads asked.now.action ≡ false }
     ensures { Answers asked.now input.items result }
 {
     let parsed = parse(alloc, &input, asked.action.part())?;
     drop(input);
-    let mut core = Core::new(alloc, parsed.script)?;
-    execute_and_report(rt, alloc, &mut core, asked, parsed.steps.as_slice())
+    parts_answer(maker, alloc, parsed, asked)
+}
+
+/// The same of an input that its owner keeps.
+pub fn answer_to<M: MakesReports>(
+    maker: &M,
+    alloc: Global,
+    input: &[u8],
+    asked: &Execution,
+) -> Result<FullReport, NoAnswer>
+    requires maker { M.can_make maker.now }
+    requires alone { needs_threads asked.now.action ≡ false }
+    ensures { Answers asked.now input.now result }
+{
+    let parsed = parse(alloc, input, asked.action.part())?;
+    parts_answer(maker, alloc, parsed, asked)
 }

@@ -4,11 +4,10 @@ ghost use Rattle.kms_model.specs.Script.WellFormed.{IsWellFormed};
 ghost use Rattle.kms_players.specs.Players.{name_of_pass};
 ghost use Rattle.kms_run.specs.Answers.{Answers, IsReportOf};
 ghost use Rattle.kms_run.specs.Running.{AreAllPasses, IsFinishedOf, IsRunOf, IsSeat, player_of, seats_for};
-ghost use Rattle.kms_run.specs.declared.words.Action.TheVariants as Action;
-ghost use Rattle.kms_run.specs.Words.{AreFewThreads};
+ghost use Rattle.kms_run.specs.Words.{AreFewThreads, run_execution};
 
 use crate::answers::{FullReport, NoAnswer, full_report};
-use crate::words::{Action, Execution};
+use crate::words::{Action, Execution, ThreadedRun};
 use kms_core::Core;
 use kms_device::{Device, Pass};
 use kms_io::Gate;
@@ -16,7 +15,7 @@ use kms_model::{NoMemory, Part, Script, Seq, Step};
 use kms_one_thread::finish;
 use kms_players::{AnyPlayer, Client, VblankTick, Worker};
 use kms_pool::{Player, drive};
-use kms_report::Options;
+use kms_report::SeveralThreads;
 use kms_script::parse;
 use std::alloc::Global;
 use std::sync::Wait;
@@ -126,22 +125,21 @@ fn run_and_report<R: Threads + Wait + Sync, G: Gate + Sync>(
     alloc: Global,
     script: Script,
     schedule: &[Step],
-    threads: u32,
-    options: Options,
+    asks: ThreadedRun,
     gate: &G,
 ) -> Result<FullReport, NoMemory>
     requires formed { IsWellFormed script }
-    requires threads { AreFewThreads threads }
-    ensures { IfOk result (λ report.
-        IsReportOf (record { action = Action.Run threads; options = options }) script
-        schedule.now report.ended report.text) }
+    requires threads { AreFewThreads asks.threads }
+    ensures { IfOk result (λ report. IsReportOf (run_execution asks) script schedule.now
+        report.ended report.text) }
 {
+    let ThreadedRun { threads, options } = asks;
     let core = run_to_end(rt, alloc, script, threads, gate)?;
     let asked = Execution {
         action: Action::Run { threads },
         options,
     };
-    full_report(rt, alloc, &core, &asked, schedule)
+    full_report(&SeveralThreads { rt }, alloc, &core, &asked, schedule)
 }
 
 /// The report of a run of the script that an input spells, by 1 to 16 threads; or the input's first fault. The input's bytes
@@ -150,17 +148,15 @@ pub(crate) fn run_answer<R: Threads + Wait + Sync, G: Gate + Sync>(
     rt: &R,
     alloc: Global,
     input: Vec<u8>,
-    threads: u32,
-    options: Options,
+    asks: ThreadedRun,
     gate: &G,
 ) -> Result<FullReport, NoAnswer>
-    requires { AreFewThreads threads }
-    ensures { Answers (record { action = Action.Run threads; options = options })
-        input.items result }
+    requires { AreFewThreads asks.threads }
+    ensures { Answers (run_execution asks) input.items result }
 {
     let parsed = parse(alloc, &input, Part::Script)?;
     drop(input);
     let script = parsed.script;
     let steps = parsed.steps.as_slice();
-    Ok(run_and_report(rt, alloc, script, steps, threads, options, gate)?)
+    Ok(run_and_report(rt, alloc, script, steps, asks, gate)?)
 }

@@ -3,7 +3,7 @@ ghost use Rattle.std.specs.Prelude.{◌≡◌, ◌++◌, codes, IfOk, string_byt
 ghost use Rattle.std.specs.Fmt.{decimal};
 ghost use Rattle.kms_run.specs.StatusText.{why_text, status_text};
 
-use kms_model::{NoMemory, Why};
+use kms_model::{NoMemory, ObjId, Why};
 use kms_one_thread::End;
 use std::alloc::{AllocError, Global};
 
@@ -30,6 +30,9 @@ pub enum Status {
     Open,
     /// A line of a report, counted from 1, is the first that is wrong; nothing is written.
     AuditNo { line: u32 },
+    /// What an object shows cannot be brought back, since no open thing holds it; nothing is written. It is the object of
+    /// least id of which this holds.
+    Closed { object: ObjId },
 }
 
 impl Status {
@@ -37,7 +40,7 @@ impl Status {
     ghost use Rattle.kms_run.specs.StatusText.{status_number, status_of};
 
     /// The status of a run whose report is written, by how its history ended.
-    pub(crate) fn of_end(ended: End) -> Status
+    pub fn of_end(ended: End) -> Status
         ensures { result ≡ status_of ended }
     {
         match ended {
@@ -62,6 +65,7 @@ impl Status {
             Status::Illegal { .. } => 7,
             Status::Open => 8,
             Status::AuditNo { .. } => 9,
+            Status::Closed { .. } => 10,
         }
     }
 }
@@ -89,7 +93,7 @@ pub fn status_text(alloc: Global, status: &Status) -> Result<String, NoMemory>
         Status::Usage => {
             String::from_str(
                 alloc,
-                "kms: usage: kms one, replay, run, gen, audit, legacy",
+                "kms: usage: kms one, replay, run, gen, audit, legacy, suspend",
             )?
         }
         Status::Script { line, why } => script_text(alloc, *line, why_text(*why))?,
@@ -98,6 +102,7 @@ pub fn status_text(alloc: Global, status: &Status) -> Result<String, NoMemory>
         Status::Illegal { at } => illegal_text(alloc, *at)?,
         Status::Open => String::from_str(alloc, "kms: open")?,
         Status::AuditNo { line } => audit_text(alloc, *line)?,
+        Status::Closed { object } => closed_text(alloc, object.0)?,
     };
     Ok(text)
 }
@@ -122,4 +127,10 @@ fn audit_text(alloc: Global, line: u32) -> Result<String, AllocError>
     ensures { IfOk result (λ text. string_bytes text ≡ codes "kms: audit: line " ++ decimal line) }
 {
     format!(in alloc; "kms: audit: line {line}")
+}
+
+fn closed_text(alloc: Global, object: u32) -> Result<String, AllocError>
+    ensures { IfOk result (λ text. string_bytes text ≡ codes "kms: closed " ++ decimal object) }
+{
+    format!(in alloc; "kms: closed {object}")
 }

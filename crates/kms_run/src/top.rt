@@ -5,20 +5,24 @@ ghost use Rattle.kms_io.specs.Causes.{Rose};
 ghost use Rattle.kms_io.specs.Bytes.{Moved};
 ghost use Rattle.kms_run.specs.declared.words.Execution.{Execution};
 ghost use Rattle.kms_run.specs.Answers.{Answers};
-ghost use Rattle.kms_run.specs.Outcome.{HasEnded, IsSilent, Meets, MeetsGenerated, MeetsTranslation, ReadsAll, Wrote};
+ghost use Rattle.kms_run.specs.Auditing.{SaysOf};
+ghost use Rattle.kms_run.specs.Outcome.{HasEnded, IsSilent, Meets, MeetsAudit, MeetsGenerated, MeetsSleep, MeetsTranslation, ReadsAll, TellsFaults, Wrote};
+ghost use Rattle.kms_run.specs.Slept.{SleepAnswers};
 ghost use Rattle.kms_run.specs.Translation.{TellsTranslation};
-ghost use Rattle.kms_run.specs.Words.{AreFewThreads, HasFewCommits, is_run, needs_threads};
+ghost use Rattle.kms_run.specs.Words.{AreFewThreads, HasFewCommits, is_run, needs_threads, run_execution};
 
 use crate::answers::{FullReport, NoAnswer, answer};
+use crate::auditing::{NoYes, answer_audit};
 use crate::generated::generate_text;
 use crate::running::run_answer;
+use crate::slept::{NoSleep, slept_answer};
 use crate::status::Status;
 use crate::stream::{ReadError, read_all, write_all};
 use crate::translated::translated_text;
-use crate::words::{Action, Execution, Generation, Task, read_words};
+use crate::words::{Action, Execution, Generation, Task, ThreadedRun, read_words};
 use kms_io::{Gate, Sink, Source};
 use kms_model::Seq;
-use kms_report::Options;
+use kms_report::SeveralThreads;
 use kms_script::{MAX_INPUT, ParseError};
 use std::alloc::Global;
 use std::sync::Wait;
@@ -79,17 +83,11 @@ fn execute_input<R: Threads + Sync, S: Source, K: Sink>(
     ensures moved { Moved
         (S.left source.old) (S.left source.new) (K.written sink.old) (K.written sink.new)
         (Meets asks.now result (S.left source.new)) }
-    ensures read_fault { result ≡ Status.ReadFault
-        → Rose (S.faults source.old) (S.faults source.new) }
-    ensures no_read_fault { result ≢ Status.ReadFault
-        → S.faults source.new ≡ S.faults source.old }
-    ensures write_fault { result ≡ Status.WriteFault
-        → Rose (K.faults sink.old) (K.faults sink.new) }
-    ensures no_write_fault { result ≢ Status.WriteFault
-        → K.faults sink.new ≡ K.faults sink.old }
+    ensures faults { TellsFaults result (S.faults source.old) (S.faults source.new)
+        (K.faults sink.old) (K.faults sink.new) }
 {
     match read_input(alloc, source) {
-        Ok(input) => write_answer(sink, answer(rt, alloc, input, asks)),
+        Ok(input) => write_answer(sink, answer(&SeveralThreads { rt }, alloc, input, asks)),
         Err(status) => status,
     }
 }
@@ -98,31 +96,65 @@ fn execute_input<R: Threads + Sync, S: Source, K: Sink>(
 fn run_input<R: Threads + Wait + Sync, S: Source, K: Sink, G: Gate + Sync>(
     rt: &R,
     alloc: Global,
-    threads: u32,
-    options: Options,
+    asks: ThreadedRun,
     source: &mut S,
     sink: &mut K,
     gate: &G,
 ) -> Status
-    requires { AreFewThreads threads }
+    requires { AreFewThreads asks.threads }
     ensures moved { Moved
         (S.left source.old) (S.left source.new) (K.written sink.old) (K.written sink.new)
-        (Meets (record { action = Action.Run threads; options = options }) result
-        (S.left source.new)) }
-    ensures read_fault { result ≡ Status.ReadFault
-        → Rose (S.faults source.old) (S.faults source.new) }
-    ensures no_read_fault { result ≢ Status.ReadFault
-        → S.faults source.new ≡ S.faults source.old }
-    ensures write_fault { result ≡ Status.WriteFault
-        → Rose (K.faults sink.old) (K.faults sink.new) }
-    ensures no_write_fault { result ≢ Status.WriteFault
-        → K.faults sink.new ≡ K.faults sink.old }
+        (Meets (run_execution asks) result (S.left source.new)) }
+    ensures faults { TellsFaults result (S.faults source.old) (S.faults source.new)
+        (K.faults sink.old) (K.faults sink.new) }
 {
     match read_input(alloc, source) {
         Ok(input) => {
-            let answer = run_answer(rt, alloc, input, threads, options, gate);
+            let answer = run_answer(rt, alloc, input, asks, gate);
             write_answer(sink, answer)
         }
+        Err(status) => status,
+    }
+}
+
+/// Writes the report of an input under `suspend`, where it has one. Gives the status that comes of it.
+fn write_slept<K: Sink>(sink: &mut K, answer: Result<FullReport, NoSleep>) -> Status
+    ensures put { (left : Option (List ℕ)) (input : List ℕ)
+        → ReadsAll left input → SleepAnswers input answer
+        → Wrote (K.written sink.old) (K.written sink.new) (MeetsSleep result left input) }
+    ensures cause { result ≡ Status.WriteFault
+        → Rose (K.faults sink.old) (K.faults sink.new) }
+    ensures quiet { result ≢ Status.WriteFault
+        → K.faults sink.new ≡ K.faults sink.old }
+    ensures read { result ≢ Status.ReadFault }
+{
+    let told = match answer {
+        Ok(told) => told,
+        Err(NoSleep::Fault { line, why }) => return Status::Script { line, why },
+        Err(NoSleep::Closed { object }) => return Status::Closed { object },
+        Err(NoSleep::NoMemory) => return Status::NoMemory,
+    };
+    match write_all(sink, told.text.as_slice()) {
+        Ok(()) => Status::of_end(told.ended),
+        Err(_) => Status::WriteFault,
+    }
+}
+
+/// What `suspend` does, with all that is promised of the bytes in one clause by the status.
+fn slept<R: Threads + Sync, S: Source, K: Sink>(
+    rt: &R,
+    alloc: Global,
+    source: &mut S,
+    sink: &mut K,
+) -> Status
+    ensures moved { Moved
+        (S.left source.old) (S.left source.new) (K.written sink.old) (K.written sink.new)
+        (MeetsSleep result (S.left source.new)) }
+    ensures faults { TellsFaults result (S.faults source.old) (S.faults source.new)
+        (K.faults sink.old) (K.faults sink.new) }
+{
+    match read_input(alloc, source) {
+        Ok(input) => write_slept(sink, slept_answer(&SeveralThreads { rt }, alloc, input)),
         Err(status) => status,
     }
 }
@@ -177,14 +209,8 @@ fn translated<S: Source, K: Sink>(alloc: Global, source: &mut S, sink: &mut K) -
     ensures moved { Moved
         (S.left source.old) (S.left source.new) (K.written sink.old) (K.written sink.new)
         (MeetsTranslation result (S.left source.new)) }
-    ensures read_fault { result ≡ Status.ReadFault
-        → Rose (S.faults source.old) (S.faults source.new) }
-    ensures no_read_fault { result ≢ Status.ReadFault
-        → S.faults source.new ≡ S.faults source.old }
-    ensures write_fault { result ≡ Status.WriteFault
-        → Rose (K.faults sink.old) (K.faults sink.new) }
-    ensures no_write_fault { result ≢ Status.WriteFault
-        → K.faults sink.new ≡ K.faults sink.old }
+    ensures faults { TellsFaults result (S.faults source.old) (S.faults source.new)
+        (K.faults sink.old) (K.faults sink.new) }
 {
     match read_input(alloc, source) {
         Ok(input) => write_translation(sink, translated_text(alloc, input)),
@@ -192,13 +218,51 @@ fn translated<S: Source, K: Sink>(alloc: Global, source: &mut S, sink: &mut K) -
     }
 }
 
+/// Writes what is said of a report that is right. Gives the status that comes of it.
+fn write_yes<K: Sink>(sink: &mut K, answer: Result<(), NoYes>) -> Status
+    ensures put { (left : Option (List ℕ)) (input : List ℕ)
+        → ReadsAll left input → SaysOf input answer
+        → Wrote (K.written sink.old) (K.written sink.new) (MeetsAudit result left input) }
+    ensures cause { result ≡ Status.WriteFault
+        → Rose (K.faults sink.old) (K.faults sink.new) }
+    ensures quiet { result ≢ Status.WriteFault
+        → K.faults sink.new ≡ K.faults sink.old }
+    ensures read { result ≢ Status.ReadFault }
+{
+    match answer {
+        Ok(()) => {}
+        Err(NoYes::Fault { line, why }) => return Status::Script { line, why },
+        Err(NoYes::Wrong { line }) => return Status::AuditNo { line },
+        Err(NoYes::NoMemory) => return Status::NoMemory,
+    }
+    match write_all(sink, b"audit yes\n") {
+        Ok(()) => Status::Ok,
+        Err(_) => Status::WriteFault,
+    }
+}
+
+/// What `audit` does, which executes nothing.
+fn audited<S: Source, K: Sink>(alloc: Global, source: &mut S, sink: &mut K) -> Status
+    ensures moved { Moved
+        (S.left source.old) (S.left source.new) (K.written sink.old) (K.written sink.new)
+        (MeetsAudit result (S.left source.new)) }
+    ensures faults { TellsFaults result (S.faults source.old) (S.faults source.new)
+        (K.faults sink.old) (K.faults sink.new) }
+{
+    match read_input(alloc, source) {
+        Ok(input) => write_yes(sink, answer_audit(alloc, &input)),
+        Err(status) => status,
+    }
+}
+
 /// All that the program does for words that are no legal words of `run`. It waits for nobody. `rt` is for threads that
 /// only compute: they make the frames of a report, and their digests.
 ///
-/// The words are tried first. For `one` and `replay` the input is read to its end (or to one byte more than it may have),
-/// then the script is read and executed, and only then is the report written. For `gen` nothing is read; the generated
+/// The words are tried first. For `one`, `replay` and `suspend` the input is read to its end (or to one byte more than it may
+/// have), then the script is read and executed, and only then is the report written. For `gen` nothing is read; the generated
 /// script, or the six lines of its run, is written when it is whole. For `legacy` the input is read as for `one`, and its
-/// translation is written when it is whole; nothing is executed but on the device of one thread.
+/// translation is written when it is whole; nothing is executed but on the device of one thread. For `audit` the input is
+/// read likewise, and `audit yes` is written where each line of the report behind the script is right, and else nothing.
 pub fn kms_plain<R: Threads + Sync, S: Source, K: Sink>(
     rt: &R,
     alloc: Global,
@@ -216,6 +280,8 @@ pub fn kms_plain<R: Threads + Sync, S: Source, K: Sink>(
         Some(Task::Execute(asks)) => execute_input(rt, alloc, &asks, source, sink),
         Some(Task::Generate(asks)) => write_generation(rt, alloc, &asks, sink),
         Some(Task::Translate) => translated(alloc, source, sink),
+        Some(Task::Suspend) => slept(rt, alloc, source, sink),
+        Some(Task::Audit) => audited(alloc, source, sink),
     }
 }
 
@@ -244,7 +310,10 @@ pub fn kms_main<R: Threads + Wait + Sync, S: Source, K: Sink, G: Gate + Sync>(
                     options,
                 },
             ),
-        ) => run_input(rt, alloc, threads, options, source, sink, gate),
+        ) => {
+            let asks = ThreadedRun { threads, options };
+            run_input(rt, alloc, asks, source, sink, gate)
+        }
         _ => kms_plain(rt, alloc, words, source, sink),
     }
 }

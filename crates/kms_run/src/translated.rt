@@ -16,3 +16,12 @@ pub fn translated_text(alloc: Global, input: Vec<u8>) -> Result<Seq<u8>, ParseEr
     let translation = translate_script(alloc, &script)?;
     Ok(print(alloc, &translation)?)
 }
+
+/// The same of an input that its owner keeps.
+pub fn translate_text(alloc: Global, input: &[u8]) -> Result<Seq<u8>, ParseError>
+    ensures { TellsTranslation input.now result }
+{
+    let script = parse_legacy(alloc, input)?;
+    let translation = translate_script(alloc, &script)?;
+    Ok(print(alloc, &translation)?)
+}

@@ -1,7 +1,7 @@
 //! The words of the command line.
 ghost use Rattle.std.specs.Prelude.{◌≡◌, ◌≤◌, IfSome, is_some, map, string_bytes};
 ghost use Rattle.std.specs.Str.{bytes_eq};
-ghost use Rattle.kms_run.specs.Words.{AsksForFew, HasFewCommits, HasFewThreads, IsFewCount, action_of, asked, execution_of, generation_of, is_run, no_options, no_words, number_in_word, options_after, run_after, run_flag, translation_of, with_option, with_word_at};
+ghost use Rattle.kms_run.specs.Words.{AsksForFew, HasFewCommits, HasFewThreads, IsFewCount, action_of, asked, asked_of_one, audit_of, execution_of, generation_of, is_run, no_options, no_words, number_in_word, options_after, run_after, run_flag, suspension_of, translation_of, with_option, with_word_at};
 
 use kms_model::Part;
 use kms_report::Options;
@@ -54,6 +54,15 @@ pub struct Execution {
     pub options: Options,
 }
 
+/// What `run` asks for.
+#[derive(Clone, Copy, PartialEq, Eq)]
+pub struct ThreadedRun {
+    /// How many threads drive the players.
+    pub threads: u32,
+    /// What the report has besides its lines.
+    pub options: Options,
+}
+
 /// A script that is generated.
 #[derive(Clone, Copy, PartialEq, Eq)]
 pub struct Generation {
@@ -80,6 +89,10 @@ pub enum Task {
     Generate(Generation),
     /// `legacy`: a script with older calls is read and translated.
     Translate,
+    /// `suspend`: a script is read and executed by one thread, and its device is turned off and brought back.
+    Suspend,
+    /// `audit`: a script and a report behind it are read, and the report is checked.
+    Audit,
 }
 
 /// Whether a word is this text.
@@ -259,10 +272,49 @@ fn translation_of(words: &[String]) -> Option<Task>
     }
 }
 
+/// What the words behind `suspend` ask for: there may be none.
+fn suspension_of(words: &[String]) -> Option<Task>
+    ensures { result ≡ suspension_of (map string_bytes words.now) }
+{
+    match words {
+        [] => Some(Task::Suspend),
+        _ => None,
+    }
+}
+
+/// What the words behind `audit` ask for: there may be none.
+fn audit_of(words: &[String]) -> Option<Task>
+    ensures { result ≡ audit_of (map string_bytes words.now) }
+{
+    match words {
+        [] => Some(Task::Audit),
+        _ => None,
+    }
+}
+
+/// What words ask for, of which the first names neither `gen` nor `run`.
+#[tactic(auto, unfolding(crate::specs::Words::asked_of_one))]
+fn asked_of_one(first: &String, rest: &[String]) -> Option<Task>
+    ensures value { result ≡ asked_of_one (string_bytes first.now) (map string_bytes rest.now) }
+    ensures few { IfSome result AsksForFew }
+{
+    if is_word(first, b"legacy") {
+        return translation_of(rest);
+    }
+    if is_word(first, b"suspend") {
+        return suspension_of(rest);
+    }
+    if is_word(first, b"audit") {
+        return audit_of(rest);
+    }
+    Some(Task::Execute(execution_of(first, rest)?))
+}
+
 /// What words ask for; none where they are not legal. The legal words are `one` or `replay`, followed by `--trace` and
 /// `--ppm`, each at most once, in any order; `run`, followed by these and by `--threads` and a number from 1 to 16 as two
 /// words, once, in any order; `gen`, a seed below 2^64 and a number of commits from 1 to 4000, followed by `--run` or
-/// nothing; and `legacy` alone. A number has one spelling, in decimal digits. The program's own name is not among the words.
+/// nothing; and `legacy`, `suspend` or `audit` alone. A number has one spelling, in decimal digits. The program's own name is not
+/// among the words.
 #[tactic(auto, unfolding(crate::specs::Words::asked))]
 pub fn read_words(words: &[String]) -> Option<Task>
     ensures value { result ≡ asked (map string_bytes words.now) }
@@ -277,10 +329,7 @@ pub fn read_words(words: &[String]) -> Option<Task>
     if is_word(first, b"run") {
         return Some(Task::Execute(run_of_words(rest)?));
     }
-    if is_word(first, b"legacy") {
-        return translation_of(rest);
-    }
-    Some(Task::Execute(execution_of(first, rest)?))
+    asked_of_one(first, rest)
 }
 
 /// Whether words are legal, as `read_words` tells. It takes no memory.

@@ -63,6 +63,11 @@ pub(crate) fn run<R: Threads + Wait + Sync>(
     Ok((status, sink))
 }
 
+/// A script and a report behind it, as `audit` reads them.
+pub(crate) fn with_report(alloc: Global, script: &str, report: &str) -> Result<String, AllocError> {
+    joined(alloc, &[script, "report\n", report])
+}
+
 /// Whether a line stands in what was written.
 pub(crate) fn has_line(sink: &MemSink, line: &str) -> bool {
     sink.written()

@@ -1,6 +1,6 @@
 //! Sources and sinks that fail, at each of their calls in turn.
-use crate::asserting::{sink, source, words};
-use crate::texts::{LEGACY, LEGACY_TRANSLATION, LIT, LIT_REPORT};
+use crate::asserting::{sink, source, with_report, words};
+use crate::texts::{LEGACY, LEGACY_TRANSLATION, LIT, LIT_REPORT, LIT_SLEPT};
 use kms_io::{MemSink, MemSource};
 use kms_run::{Status, is_run, kms_plain};
 use std::alloc::Global;
@@ -21,6 +21,19 @@ const WRITES: u32 = 12;
 const LEGACY_READS: u32 = 5;
 
 const LEGACY_WRITES: u32 = 24;
+
+/// How many writes the report takes of the first script's device that is turned off and brought back.
+const SLEPT_WRITES: u32 = 20;
+
+/// How many reads the first script and its report take, the end included.
+const AUDIT_READS: u32 = 14;
+
+/// What is written of a report that is right, the bytes of one write, and how many writes that takes.
+const YES: &str = "audit yes\n";
+
+const YES_WRITE: usize = 4;
+
+const YES_WRITES: u32 = 3;
 
 /// What a word answers that is none of `run`.
 fn answered<R: Threads + Sync>(
@@ -70,6 +83,24 @@ fn write_fails<R: Threads + Sync>(
     Ok(status == Some(Status::WriteFault) && front.flatten().eq(sink.written()))
 }
 
+/// Whether a failing write of this number ends an audit, with what was written before it.
+fn yes_fails<R: Threads + Sync>(
+    rt: &R,
+    alloc: Global,
+    text: &str,
+    yes: &str,
+    number: u32,
+) -> Result<bool, Fail> {
+    let mut source = source(alloc, text, READ, &[])?;
+    let mut sink = sink(alloc, YES_WRITE, &[number])?;
+    let status = answered(rt, alloc, "audit", &mut source, &mut sink)?;
+    let front = yes
+        .as_bytes()
+        .chunks(YES_WRITE)
+        .take(number.saturating_sub(1) as usize);
+    Ok(status == Some(Status::WriteFault) && front.flatten().eq(sink.written()))
+}
+
 /// Whether each write is handed all that is left of a report: a sink that takes so many bytes at a time has no more writes
 /// than it needs, since the next one would fail.
 fn is_handed_all<R: Threads + Sync>(
@@ -115,6 +146,28 @@ fn each_failing_write_leaves_a_front(rt: HostRuntime) -> Result<(), Fail> {
 }
 
 #[test]
+fn each_failing_read_leaves_a_device_on(rt: HostRuntime) -> Result<(), Fail> {
+    for number in 1..READS + 1 {
+        let fails = read_fails(&rt, rt.alloc(), "suspend", LIT, number)?;
+        assert!(rt; fails, "read {number}");
+    }
+    assert!(rt; !read_fails(&rt, rt.alloc(), "suspend", LIT, READS + 1)?);
+    Ok(())
+}
+
+#[test]
+fn each_failing_write_leaves_a_front_of_what_slept(rt: HostRuntime) -> Result<(), Fail> {
+    assert!(rt; LIT_SLEPT.len().div_ceil(WRITE) == SLEPT_WRITES as usize);
+    for number in 1..SLEPT_WRITES + 1 {
+        let fails = write_fails(&rt, rt.alloc(), "suspend", LIT, LIT_SLEPT, number)?;
+        assert!(rt; fails, "write {number}");
+    }
+    let beyond = SLEPT_WRITES + 1;
+    assert!(rt; !write_fails(&rt, rt.alloc(), "suspend", LIT, LIT_SLEPT, beyond)?);
+    Ok(())
+}
+
+#[test]
 fn each_failing_read_translates_nothing(rt: HostRuntime) -> Result<(), Fail> {
     assert!(rt; LEGACY.len().div_ceil(READ) + 1 == LEGACY_READS as usize);
     for number in 1..LEGACY_READS + 1 {
@@ -150,6 +203,31 @@ fn each_failing_write_leaves_a_front_of_the_translation(rt: HostRuntime) -> Resu
             beyond
         )?
     );
+    Ok(())
+}
+
+#[test]
+fn each_failing_read_says_no_yes(rt: HostRuntime) -> Result<(), Fail> {
+    let text = with_report(rt.alloc(), LIT, LIT_REPORT)?;
+    assert!(rt; text.len().div_ceil(READ) + 1 == AUDIT_READS as usize);
+    for number in 1..AUDIT_READS + 1 {
+        let fails = read_fails(&rt, rt.alloc(), "audit", text.as_str(), number)?;
+        assert!(rt; fails, "read {number}");
+    }
+    let beyond = AUDIT_READS + 1;
+    assert!(rt; !read_fails(&rt, rt.alloc(), "audit", text.as_str(), beyond)?);
+    Ok(())
+}
+
+#[test]
+fn each_failing_write_leaves_a_front_of_a_yes(rt: HostRuntime) -> Result<(), Fail> {
+    assert!(rt; YES.len().div_ceil(YES_WRITE) == YES_WRITES as usize);
+    let text = with_report(rt.alloc(), LIT, LIT_REPORT)?;
+    for number in 1..YES_WRITES + 1 {
+        let fails = yes_fails(&rt, rt.alloc(), text.as_str(), YES, number)?;
+        assert!(rt; fails, "write {number}");
+    }
+    assert!(rt; !yes_fails(&rt, rt.alloc(), text.as_str(), YES, YES_WRITES + 1)?);
     Ok(())
 }
 

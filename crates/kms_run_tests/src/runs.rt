@@ -1,5 +1,5 @@
 //! Runs by threads.
-use crate::asserting::{has_line, joined, run};
+use crate::asserting::{has_line, joined, run, with_report};
 use crate::texts::{
     BEFORE_TABLE, BEHIND_TABLE, LIT, LIT_REPORT, SCALED, SCALED_REPORT, TABLE_REPORT, WAITING,
 };
@@ -89,5 +89,34 @@ fn steps_of_threads_are_replayed(rt: HostRuntime) -> Result<(), Fail> {
     let (status, replayed) = run(&rt, alloc, &["replay", "--trace"], text.as_str())?;
     assert!(rt; status == Status::Ok);
     assert!(rt; replayed.written() == report.written());
+    Ok(())
+}
+
+/// Whether `audit` says yes to the report of a run by so many threads.
+fn is_audited<R: Threads + Wait + Sync>(
+    rt: &R,
+    alloc: Global,
+    threads: u32,
+    script: &str,
+) -> Result<bool, Fail> {
+    let count = format!(in alloc; "{threads}")?;
+    let words = ["run", "--threads", count.as_str()];
+    let (_, report) = run(rt, alloc, &words, script)?;
+    let report = String::from_utf8(Vec::from_slice(alloc, report.written())?)?;
+    let text = with_report(alloc, script, report.as_str())?;
+    let (status, sink) = run(rt, alloc, &["audit"], text.as_str())?;
+    Ok(status == Status::Ok && sink.written() == b"audit yes\n".as_slice())
+}
+
+/// Whatever order threads find, their report is that of the device of one thread.
+#[test]
+fn reports_of_threads_are_right(rt: HostRuntime) -> Result<(), Fail> {
+    let alloc = rt.alloc();
+    let (_, script) = run(&rt, alloc, &["gen", "7", "60"], "")?;
+    let text = String::from_utf8(Vec::from_slice(alloc, script.written())?)?;
+    for threads in 1..17 {
+        let is_right = is_audited(&rt, alloc, threads, text.as_str())?;
+        assert!(rt; is_right, "{threads} threads");
+    }
     Ok(())
 }

@@ -1,6 +1,6 @@
 //! Words of runs by threads; numbers and texts of statuses.
 use crate::asserting::words;
-use kms_model::Why;
+use kms_model::{ObjId, Why};
 use kms_run::{Status, is_run, legal_words, status_text};
 use std::test::Fail;
 
@@ -29,7 +29,7 @@ fn statuses_have_their_texts(rt: HostRuntime) -> Result<(), Fail> {
         (
             Status::Usage,
             3,
-            "kms: usage: kms one, replay, run, gen, audit, legacy",
+            "kms: usage: kms one, replay, run, gen, audit, legacy, suspend",
         ),
         (
             Status::Script {
@@ -44,6 +44,7 @@ fn statuses_have_their_texts(rt: HostRuntime) -> Result<(), Fail> {
         (Status::Illegal { at: 12 }, 7, "kms: event 12 is not legal"),
         (Status::Open, 8, "kms: open"),
         (Status::AuditNo { line: 7 }, 9, "kms: audit: line 7"),
+        (Status::Closed { object: ObjId(203) }, 10, "kms: closed 203"),
     ];
     for (status, number, text) in &rows {
         let found = status_text(rt.alloc(), status)?;

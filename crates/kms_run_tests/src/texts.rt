@@ -8,6 +8,10 @@ pub(crate) const LIT: &str = script!(single "client\n" made lights);
 pub(crate) const LIT_REPORT: &str =
     "J 1 1\nJ 1 2\nJ 1 3\nJ 1 4\nR 1 1 0 made 1000\nR 1 2 1 made 1001\nR 1 3 2 made 1002\nR 1 4 3 commit 0\nL 0 0 1 ba7816bf8f01cfea414140de5dae2223b00361a396177a9cb410ff61f20015ad\nD drained\n";
 
+/// What `suspend` writes of it.
+pub(crate) const LIT_SLEPT: &str =
+    "J 1 1\nJ 1 2\nJ 1 3\nJ 1 4\nJ 1 5\nJ 1 6\nR 1 1 0 made 1000\nR 1 2 1 made 1001\nR 1 3 2 made 1002\nR 1 4 3 commit 0\nR 1 5 4 commit 1\nR 1 6 5 commit 2\nL 0 0 1 ba7816bf8f01cfea414140de5dae2223b00361a396177a9cb410ff61f20015ad\nL 0 1 1 off\nL 0 2 2 ba7816bf8f01cfea414140de5dae2223b00361a396177a9cb410ff61f20015ad\nD drained\n";
+
 /// A script whose client lights the CRTC by an older call.
 pub(crate) const LEGACY: &str = script!(single "client\n" made "setcrtc 0 @f 0 0 @m 0\n");
 

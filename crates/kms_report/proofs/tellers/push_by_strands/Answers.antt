@@ -6,9 +6,11 @@ use Rattle.kms_report.specs.Images.{things_of}
 use Rattle.kms_report.proofs.tellers.push_by_strands.Goals as goal
 
 pub show_latch-requires-clause-screen : goal.show_latch-requires-clause-screen
-show_latch-requires-clause-screen g c = c.dark-dark.ensures.things (things_of c.args.core.now)
+show_latch-requires-clause-screen g c = c.dark-dark.ensures.things (things_of c.args.told.now.core.now)
 
 pub show_latch-requires-clause-after : goal.show_latch-requires-clause-after
 show_latch-requires-clause-after g c =
-    All-take (λ (l : Latch). EachCanBeShown (things_of c.args.core.now) l.picture) (length c.args.latches.now - (c.in-Some.place + 1)) (drop (c.in-Some.place + 1) c.args.latches.now)
-    (All-drop (λ (l : Latch). EachCanBeShown (things_of c.args.core.now) l.picture) (c.in-Some.place + 1) c.args.latches.now c.requires.can)
+    All-take (λ (l : Latch). EachCanBeShown (things_of c.args.told.now.core.now) l.picture)
+    (length c.args.told.now.latches.now - (c.in-Some.place + 1)) (drop (c.in-Some.place + 1) c.args.told.now.latches.now)
+    (All-drop (λ (l : Latch). EachCanBeShown (things_of c.args.told.now.core.now) l.picture) (c.in-Some.place + 1)
+    c.args.told.now.latches.now c.requires.can)

@@ -5,4 +5,5 @@ use Rattle.kms_run.proofs.answers.answer.Goals as goal
 
 pub returns : goal.returns
 returns g c =
-    answers_told c.args.asked.now c.args.input.items (parts_in c.in_ok-parsed.parsed) c.execute_and_report.result (search rules) (search rules)
+    answers_told c.args.asked.now c.args.input.items (parts_in c.in_ok-parsed.parsed) c.parts_answer.result
+    (search rules) (search rules)

@@ -15,12 +15,14 @@ loop-client-preserved c =
     let told = c.count_events_told-count.ensures in
     let formed = c.is_a_history.ensures.formed in
     let history = c.is_a_history.ensures.history in
-    let exact : c.count_events_told-count.result ≡ count_by (tells (client + 1)) (replies m) = told.exact ∙ ap (count_by (tells (client + 1))) c.replies.ensures in
+    let exact : c.count_events_told-count.result ≡ count_by (tells (client + 1)) (replies m) = told.exact
+    ∙ ap (count_by (tells (client + 1))) c.replies.ensures in
     let fit = (c.numbers_fit_their_types.ensures run.script run.steps formed history).replies in
     let all : length c.replies.result.now ≡ length m.records.replies = ap length c.replies.ensures ∙ length-reverse m.records.replies in
     let within = told.within in
     let few = c.loop-client.invariant.few in
     record {
-      counted = counted_more m client c.loop-client.count c.count_events_told-count.result exact (c.events_read_are_replies.ensures run.script run.steps formed history (client + 1)) c.loop-client.invariant.counted;
+      counted = counted_more m client c.loop-client.count c.count_events_told-count.result exact
+          (c.events_read_are_replies.ensures run.script run.steps formed history (client + 1)) c.loop-client.invariant.counted;
       few = omega (arith, fit, all, within, few);
     }

@@ -14,7 +14,8 @@ returns g c =
     let s = generated asks.seed asks.commits in
     let h = c.finish.new.core.steps in
     let same : c.finish.new.core.script ≡ s = c.in_ok-finish.ensures.on.script ∙ c.requires.script in
-    let one = subst (λ s. IsFinished s [] h) c.requires.script (subst (λ front. IsFinished c.args.core.now.script front h) c.requires.start c.in_ok-finish.ensures.finished) in
+    let one = subst (λ s. IsFinished s [] h) c.requires.script
+    (subst (λ front. IsFinished c.args.core.now.script front h) c.requires.start c.in_ok-finish.ensures.finished) in
     summed s h c.summary.result
     (subst (λ s. is_history s h ≡ true) same c.is_a_history.ensures.history)
     one

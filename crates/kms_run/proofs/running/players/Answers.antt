@@ -14,7 +14,8 @@ loop-pass-preserved g c =
     let long = ap length next in
     let left = i.left in record {
       made =
-          one_made (player_of c.args.device.now) c.loop-pass.players.items c.push.new.self.items c.player.result c.in-Some.pass (into_iter_items c.loop-pass.pass-iterator)
+          one_made (player_of c.args.device.now) c.loop-pass.players.items c.push.new.self.items c.player.result c.in-Some.pass
+          (into_iter_items c.loop-pass.pass-iterator)
           (into_iter_items c.next.new.self) _ i.made next c.player.ensures c.in_ok-push.ensures.items;
       seats = All-tail is_seat c.in-Some.pass _ (All-same is_seat _ _ (sym next) i.seats);
       left = omega (arith, gone, long, left);
@@ -22,5 +23,6 @@ loop-pass-preserved g c =
 
 pub returns : goal.returns
 returns g c =
-    all_made (player_of c.args.device.now) c.loop-pass.players.items c.from_vec.result (into_iter_items c.loop-pass.pass-iterator) (into_iter_len c.loop-pass.pass-iterator) _
+    all_made (player_of c.args.device.now) c.loop-pass.players.items c.from_vec.result (into_iter_items c.loop-pass.pass-iterator)
+    (into_iter_len c.loop-pass.pass-iterator) _
     c.loop-pass.invariant.made c.in-None.ensures.steps.0 c.loop-pass.invariant.left c.from_vec.ensures

@@ -22,8 +22,10 @@ players-requires-clause-seats g c =
 pub close_and_finish-requires-clause-all : goal.close_and_finish-requires-clause-all
 close_and_finish-requires-clause-all g c =
     all_back c.in_ok-device.device c.seats_for-seats.result c.in_ok-device.passes c.in_ok-passes.passes _ _ c.in_ok-device.ensures.seats
-    c.in_ok-device.ensures.passes (ap (map (λ p. name_of_pass (pass_of p))) c.in_ok-players.ensures ∙ player_names _ c.in_ok-device.device c.in_ok-device.passes)
+    c.in_ok-device.ensures.passes (ap (map (λ p. name_of_pass (pass_of p))) c.in_ok-players.ensures
+    ∙ player_names _ c.in_ok-device.device c.in_ok-device.passes)
     c.in_ok-players-2.ensures.players c.in_ok-passes.ensures
 
 pub returns : goal.returns
-returns g c = run_of c.args.script c.in_ok-device.device c.in_ok-passes.passes c.close_and_finish.result c.in_ok-device.ensures.script c.close_and_finish.ensures
+returns g c = run_of c.args.script c.in_ok-device.device c.in_ok-passes.passes c.close_and_finish.result c.in_ok-device.ensures.script
+    c.close_and_finish.ensures

@@ -1,0 +1,13 @@
+use Rattle.kms_legacy.proofs.OneTranslated.{one_translation}
+use Rattle.kms_run.proofs.translated.translate_text.Goals as goal
+
+pub returns : goal.returns
+returns c = record {
+  script = c.in_ok-script.script;
+  read = c.in_ok-script.ensures.value;
+  translation = c.in_ok-translation.translation;
+  is_translated = c.in_ok-translation.ensures.translated;
+  only = λ other is. one_translation c.in_ok-script.script other c.in_ok-translation.translation is c.in_ok-translation.ensures.translated;
+  screen = c.in_ok-translation.ensures.screen;
+  text = c.in_ok-print.ensures.text;
+}
