@@ -46,5 +46,8 @@ check mode_bytes "" sh "$top/checks/mode_bytes.sh"
 check event_bytes "" sh "$top/checks/event_bytes.sh"
 check on_kernel "" "$top/checks/on_kernel.sh"
 check record "" "$top/checks/record.sh" "$program"
+check conform python3 "$top/checks/conform.sh" "$program"
+check library "rt cc python3 rustc" "$top/checks/library.sh"
+check page "node python3" node "$top/web/test.mjs"
 echo "$passed passed, $failed failed"
 [ "$failed" -eq 0 ]

@@ -31,7 +31,7 @@ build on_kernel
 build on_kernel_static -static
 
 # The stand-in has libdrm's calls, and these of the system.
-wrapped=-Wl,--wrap=open,--wrap=access,--wrap=mmap,--wrap=ioctl
+wrapped=-Wl,--wrap=open,--wrap=access,--wrap=mmap,--wrap=munmap,--wrap=ioctl,--wrap=read
 # shellcheck disable=SC2086
 "$compiler" $flags "$top"/tools/on_kernel/*.c "$here/stand_in.c" "$wrapped" -o "$folder/on_stand_in" -lpthread
 on_stand_in() { "$folder/on_stand_in" stand-in "$@"; }

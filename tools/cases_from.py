@@ -80,6 +80,12 @@ def shown(name, mark, cases):
             found = text.startswith(name.encode() + b":")
         elif found and front == b"as" and mark == b"<":
             data += shown(text.decode(), mark, cases)
+        elif found and front == b"script" and mark == b"<":
+            data += re.split(rb"(?m)^schedule\n", shown(text.decode(), mark, cases))[0]
+        elif found and re.fullmatch(rb"(to|from)[0-9]*", front) and mark == b"<":
+            lines = shown(text.decode(), b">", cases).splitlines(keepends=True)
+            number = int(re.sub(rb"[a-z]", b"", front) or b"1")
+            data += b"".join(lines[:number] if front.startswith(b"to") else lines[number - 1:])
         elif found and front.rstrip(b"0123456789") == mark:
             data += bytes_of(text) * int(front[len(mark):] or b"1")
     return data

@@ -2,21 +2,21 @@
 # Runs scripts by on_kernel in a virtual machine with the distribution's kernel, on two cards: vkms, which has one CRTC, and virtio-gpu,
 # which has two. Neither root nor KVM is needed.
 #
-# usage: tools/on_vkms.sh FOLDER [--crc] SCRIPT..
+# usage: tools/on_vkms.sh FOLDER [--crc | --report] SCRIPT..
 #        tools/on_vkms.sh FOLDER --describe
 #
+# With --report a report is printed, and beside each SCRIPT stands SCRIPT.expected, the report that on_kernel holds it beside.
 # FOLDER keeps what the first run fetches and builds. For each card and script there is a line `== SCRIPT DRIVER`, what on_kernel
 # prints, and a line `== status N`. Where the machine does not come to its end, the status is 1.
 set -eu
-[ $# -ge 2 ] || { sed -n '2,9s/^# \{0,1\}//p' "$0" >&2; exit 2; }
+[ $# -ge 2 ] || { sed -n '2,11s/^# \{0,1\}//p' "$0" >&2; exit 2; }
 top=$(cd "$(dirname "$0")/.." && pwd)
 mkdir -p "$1"
 folder=$(cd "$1" && pwd)
 shift
 option=
 case $1 in
-    --crc) option=$1 && shift ;;
-    --describe) option=$1 && shift ;;
+    --crc | --report | --describe) option=$1 && shift ;;
 esac
 . "$top/tools/vkms/machine.sh"
 find_kernel
@@ -29,7 +29,10 @@ if [ ! -x "$program" ] || [ -n "$(find "$top/tools/on_kernel" -name '*.[ch]' -ne
 fi
 make_disk
 mkdir "$disk/scripts"
-[ $# -eq 0 ] || cp "$@" "$disk/scripts"
+for script; do
+    cp "$script" "$disk/scripts"
+    [ "$option" != --report ] || cp "$script.expected" "$disk/scripts"
+done
 cp "$program" "$disk/bin/on_kernel"
 cp "$top/tools/vkms/run_scripts" "$disk/run"
 echo "$option" >"$disk/option"

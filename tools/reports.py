@@ -99,6 +99,7 @@ class Rule:
     name: str
     text: str
     exactly: str
+    function: str  # the kernel's, or `own`
 
 
 def crtc_list(word):
@@ -176,5 +177,5 @@ def read_rules(page=PAGE):
     exactly = {}
     for numbers, text in re.findall(r"^\| ([\d, ]+) \| (.*) \|$", more, re.M):
         exactly.update({int(number): plain(text) for number in numbers.split(", ")})
-    rows = [row[:4] for row in table("refusals", page)]
-    return {int(row[0]): Rule(int(row[0]), *row[1:], exactly.get(int(row[0]), "")) for row in rows}
+    rows = table("refusals", page)
+    return {int(row[0]): Rule(int(row[0]), *row[1:4], exactly.get(int(row[0]), ""), plain(row[4])) for row in rows}

@@ -3,7 +3,11 @@
  *
  * A request is refused where it names what is not there, needs a modeset that is not allowed, asks for an event with no CRTC or in
  * a test, or does not block and meets a commit that has not flipped. Nothing else is checked. A commit flips once its fences are
- * signalled and those before it on its CRTCs have flipped; one that blocks waits for that before it is swapped, as Linux does. */
+ * signalled and those before it on its CRTCs have flipped; one that blocks waits for that before it is swapped, as Linux does.
+ *
+ * Its checksum of a CRTC is one of the bytes of the primary plane's buffer, so it sees a picture of that plane alone. The variable
+ * STAND_IN has one thing go wrong: `EIO N` or `ERANGE N` (request N, from 1, is refused so), `frame N` (the N-th checksum is another),
+ * `twice N` or `lost N` (the N-th event). */
 #define _GNU_SOURCE
 #include <errno.h>
 #include <fcntl.h>
@@ -75,6 +79,14 @@ static int fence_files[MOST_FILES]; /* of a timeline's file */
 static enum { NO_FENCE, WAITING, SIGNALLED } fences[MOST_FILES];
 static bool is_open[MOST_IDS]; /* framebuffers and blobs */
 static uint32_t made_count, handle_count, commit_count, counts[CRTCS];
+static struct buffer {
+    size_t size;
+    const uint8_t *bytes;
+} buffers[MOST_IDS]; /* by handle; the bytes stay mapped */
+static uint32_t buffer_of[MOST_IDS]; /* of a framebuffer, by its id */
+static drmModePropertyBlobRes blobs[MOST_IDS];
+static int checksum_crtcs[MOST_FILES]; /* of a file of checksums: the CRTC, from 1 */
+static unsigned request_count, event_count, checksum_count;
 static struct commit pending[MOST_PENDING]; /* in order: those that have not flipped */
 static unsigned pending_count;
 static pthread_mutex_t card = PTHREAD_MUTEX_INITIALIZER;
@@ -83,6 +95,15 @@ static pthread_cond_t changed = PTHREAD_COND_INITIALIZER;
 int __real_open(const char *path, int flags, ...);
 int __real_access(const char *path, int mode);
 void *__real_mmap(void *at, size_t size, int protection, int flags, int file, off_t offset);
+ssize_t __real_read(int file, void *to, size_t size);
+
+/* Whether a thing of this number is to go wrong. */
+static bool goes_wrong(const char *what, unsigned number) {
+    char wanted[32] = "";
+    unsigned at = 0;
+    const char *variable = getenv("STAND_IN");
+    return variable && sscanf(variable, "%31s %u", wanted, &at) == 2 && !strcmp(wanted, what) && at == number;
+}
 
 /* Ids */
 
@@ -146,8 +167,11 @@ static void send_event(const struct commit *c, unsigned crtc) {
                                      .user_data = c->user_data,
                                      .sequence = counts[crtc],
                                      .crtc_id = FIRST_CRTC + crtc};
-    if (write(other_ends[c->file], &event, sizeof event) != sizeof event)
-        abort();
+    unsigned number = ++event_count;
+    unsigned times = goes_wrong("lost", number) ? 0 : goes_wrong("twice", number) ? 2 : 1;
+    while (times--)
+        if (write(other_ends[c->file], &event, sizeof event) != sizeof event)
+            abort();
 }
 
 static void flip(const struct commit *c) {
@@ -253,6 +277,11 @@ static int commit(int file, const struct drm_mode_atomic *a) {
     const uint32_t *ids = (void *)(uintptr_t)a->objs_ptr, *each = (void *)(uintptr_t)a->count_props_ptr;
     const uint32_t *names = (void *)(uintptr_t)a->props_ptr;
     const uint64_t *set = (void *)(uintptr_t)a->prop_values_ptr;
+    request_count++;
+    if (goes_wrong("EIO", request_count))
+        return EIO;
+    if (goes_wrong("ERANGE", request_count))
+        return ERANGE;
     memcpy(r.states, values, sizeof values);
     for (uint32_t i = 0, at = 0; i < a->count_objs; i++)
         for (uint32_t n = 0; n < each[i]; n++, at++) {
@@ -290,6 +319,7 @@ static int make_buffer(struct drm_mode_create_dumb *make) {
     make->handle = ++handle_count;
     make->pitch = make->width * make->bpp / 8;
     make->size = (uint64_t)make->pitch * make->height;
+    buffers[make->handle] = (struct buffer){make->pitch * make->height, NULL};
     return 0;
 }
 
@@ -301,7 +331,8 @@ int drmIoctl(int file, unsigned long request, void *argument) {
     } else if (request == DRM_IOCTL_MODE_CREATE_DUMB) {
         error = make_buffer(argument);
     } else if (request == DRM_IOCTL_MODE_MAP_DUMB) {
-        ((struct drm_mode_map_dumb *)argument)->offset = 0;
+        struct drm_mode_map_dumb *map = argument;
+        map->offset = (uint64_t)map->handle << 12;
     } else {
         /* closing a framebuffer: its id is the first number */
         error = unmake(*(uint32_t *)argument);
@@ -315,24 +346,33 @@ int drmModeAddFB2(int file, uint32_t width, uint32_t height, uint32_t format, co
                   const uint32_t offsets[4], uint32_t *id, uint32_t flags) {
     bool is_there = handles[0] >= 1 && handles[0] <= handle_count && pitches[0] && !offsets[0] && !flags;
     errno = file < 0 || !width || !height || !format ? EINVAL : is_there ? 0 : ENOENT;
-    if (!errno)
+    if (!errno) {
         *id = make_id();
-    return errno ? -1 : 0;
-}
-
-int drmModeCreatePropertyBlob(int file, const void *data, size_t size, uint32_t *id) {
-    *id = make_id();
-    return file < 0 || !data || !size;
-}
-
-int drmModeDestroyPropertyBlob(int file, uint32_t id) {
-    errno = file < 0 ? EBADF : unmake(id);
+        buffer_of[*id - FIRST_MADE] = handles[0];
+    }
     return errno ? -1 : 0;
 }
 
 static void *copy_of(const void *bytes, size_t size) {
     void *copy = malloc(size);
     return copy ? memcpy(copy, bytes, size) : NULL;
+}
+
+int drmModeCreatePropertyBlob(int file, const void *data, size_t size, uint32_t *id) {
+    *id = make_id();
+    blobs[*id - FIRST_MADE] = (drmModePropertyBlobRes){*id, size, copy_of(data, size)};
+    return file < 0 || !data || !size;
+}
+
+drmModePropertyBlobPtr drmModeGetPropertyBlob(int file, uint32_t id) {
+    return file < 0 || id < FIRST_MADE || id >= FIRST_MADE + made_count ? NULL : &blobs[id - FIRST_MADE];
+}
+
+void drmModeFreePropertyBlob(drmModePropertyBlobPtr it) { (void)it; }
+
+int drmModeDestroyPropertyBlob(int file, uint32_t id) {
+    errno = file < 0 ? EBADF : unmake(id);
+    return errno ? -1 : 0;
 }
 
 drmModeResPtr drmModeGetResources(int file) {
@@ -419,13 +459,41 @@ int __wrap_open(const char *path, int flags, ...) {
         other_ends[ends[0]] = ends[1];
         return ends[0];
     }
-    return __real_open(strncmp(path, "/sys/", 5) ? path : "/dev/null", flags);
+    int file = __real_open(strncmp(path, "/sys/", 5) ? path : "/dev/null", flags);
+    unsigned crtc;
+    checksum_crtcs[file] = sscanf(path, "/sys/kernel/debug/dri/%*d/crtc-%u/", &crtc) == 1 && strstr(path, "/data") ? crtc + 1 : 0;
+    checksum_count += checksum_crtcs[file] != 0;
+    return file;
 }
+
+/* The bytes of the primary plane's buffer of a CRTC, summed up. */
+static unsigned sum_of(unsigned crtc) {
+    uint64_t framebuffer = values[CRTCS + crtc][property_index("FB_ID")];
+    unsigned sum = goes_wrong("frame", checksum_count);
+    if (framebuffer < FIRST_MADE)
+        return sum;
+    const struct buffer *b = &buffers[buffer_of[framebuffer - FIRST_MADE]];
+    for (size_t i = 0; b->bytes && i < b->size; i++)
+        sum = sum * 31 + (i % 4 == 3 ? 0 : b->bytes[i]);
+    return sum;
+}
+
+/* The check of the recorder has its own. */
+__attribute__((weak)) ssize_t __wrap_read(int file, void *to, size_t size) {
+    if (file < 0 || file >= MOST_FILES || !checksum_crtcs[file])
+        return __real_read(file, to, size);
+    return snprintf(to, size, "0x00000001 0x%08x\n", sum_of(checksum_crtcs[file] - 1));
+}
+
+/* Buffers stay mapped. */
+int __wrap_munmap(void *at, size_t size) { return at && size ? 0 : -1; }
 
 int __wrap_access(const char *path, int mode) { return strncmp(path, "/sys/", 5) ? __real_access(path, mode) : 0; }
 
 void *__wrap_mmap(void *at, size_t size, int protection, int flags, int file, off_t offset) {
-    return __real_mmap(at, size, protection, flags | MAP_ANONYMOUS, file < MOST_FILES ? -1 : file, offset);
+    uint8_t *bytes = __real_mmap(at, size, protection, flags | MAP_ANONYMOUS, file < MOST_FILES ? -1 : file, 0);
+    buffers[offset >> 12].bytes = bytes;
+    return bytes;
 }
 
 /* Of a timeline: its fence is made, or signalled. */

@@ -1,10 +1,11 @@
 /* Executes the commands of a script through the kernel's mode-setting ioctls, and prints what the kernel answers.
  *
  *     on_kernel CARD [--crc] < SCRIPT
+ *     on_kernel CARD --report EXPECTED < SCRIPT
  *     on_kernel CARD --describe
  *
- * CARD is a device file as /dev/dri/card0. The second prints what the card has. README.md, beside this file, says what is printed
- * and how to run it. */
+ * CARD is a device file as /dev/dri/card0. The second prints a report, the third what the card has. README.md, beside this file, says
+ * what is printed and how to run it. */
 #define _GNU_SOURCE
 #include <errno.h>
 #include <fcntl.h>
@@ -24,13 +25,14 @@
 #include <drm_fourcc.h>
 
 #include "card.h"
+#include "seen.h"
+#include "told.h"
 
 enum {
     MOST_CLIENTS = 16,
     MOST_THINGS = 8192,
     MOST_WORDS = 300,
     FIRST_THING = 1000,
-    FIRST_CRTC = 100,
     PATIENCE_MS = 300,      /* how long a command may take before the next client has its turn */
     MOST_STILL_ROUNDS = 10, /* rounds without an answer before the run is given up */
 };
@@ -58,32 +60,21 @@ struct client {
     char **lines;
     unsigned count, answered_count;
     unsigned reserved; /* events that it was promised and has not read */
-    bool is_running, is_accepted;
-    char reply[128];
+    bool is_running;
+    struct reply reply; /* to its last command */
     sem_t turn, answered;
-};
-
-struct entry {
-    int client;
-    unsigned command;
 };
 
 static struct objects crtcs, planes, connectors, encoders;
 static struct thing things[MOST_THINGS];
-static unsigned thing_count, made_count, commit_count;
+static unsigned thing_count, made_count, journal_count;
 static struct client clients[MOST_CLIENTS];
 static unsigned client_count;
 static struct client *master;
 static pthread_mutex_t table = PTHREAD_MUTEX_INITIALIZER;
-static struct entry *journal;
-static unsigned journal_count;
-static FILE *replies[MOST_CLIENTS], *events[MOST_CLIENTS];
-static char *reply_texts[MOST_CLIENTS], *event_texts[MOST_CLIENTS];
-static size_t text_size;
 static int card_minor;
-static bool wants_crc;
-static FILE *checksums;
-static char *checksum_text;
+static bool wants_checksums;
+static unsigned active; /* the CRTCs that are active, by what was accepted */
 
 /* Words and lines */
 
@@ -105,19 +96,14 @@ static char *next_line(void) {
     return line;
 }
 
-static const char *errno_name(int error) {
-    const char *name = strerrorname_np(error);
-    return name ? name : "EUNKNOWN";
-}
-
 /* Answers */
 
 static void answer(struct client *c, bool is_accepted, const char *text) {
-    c->is_accepted = is_accepted;
-    snprintf(c->reply, sizeof c->reply, "%s", text);
+    c->reply.is_accepted = is_accepted;
+    snprintf(c->reply.text, sizeof c->reply.text, "%s", text);
 }
 
-static void answer_error(struct client *c, int error) { answer(c, false, errno_name(error)); }
+static void answer_error(struct client *c, int error) { c->reply.error = error; }
 
 static void answer_made(struct client *c) {
     char text[32];
@@ -482,33 +468,14 @@ static void keep_out_fences(struct client *c, struct request *r) {
         }
 }
 
-/* A checksum of what a CRTC shows, as the driver gives it: the third one, which is of a frame after the commit. Each read
- * gives a line with the frame and the checksums. */
-static bool read_checksum(unsigned crtc, char *line, size_t size) {
-    char path[96];
-    snprintf(path, sizeof path, "/sys/kernel/debug/dri/%d/crtc-%u/crc/control", card_minor, crtc);
-    int control = open(path, O_WRONLY | O_CLOEXEC);
-    bool is_read = control >= 0 && write(control, "auto", 4) == 4;
-    close(control);
-    snprintf(path, sizeof path, "/sys/kernel/debug/dri/%d/crtc-%u/crc/data", card_minor, crtc);
-    int data = is_read ? open(path, O_RDONLY | O_CLOEXEC) : -1;
-    for (unsigned i = 0; is_read && i < 3; i++) {
-        ssize_t length = read(data, line, size - 1);
-        is_read = length > 0;
-        line[is_read ? length : 0] = 0;
-    }
-    close(data);
-    return is_read;
-}
+static struct view view(void) { return (struct view){clients[0].file, card_minor, &crtcs, &planes, &connectors}; }
 
-static void print_checksums(unsigned commit) {
-    char line[256];
-    for (unsigned i = 0; i < crtcs.count; i++)
-        if (property_value(clients[0].file, &crtcs.all[i], "ACTIVE") && read_checksum(i, line, sizeof line)) {
-            line[strcspn(line, "\n")] = 0;
-            char *sum = strchr(line, ' ');
-            fprintf(checksums, "C %u %u%s\n", i, commit, sum ? sum : " none");
-        }
+/* The last commit that named a CRTC has flipped: what it shows is seen, where that was not done. */
+static void see_flipped(unsigned crtc) {
+    int commit = last_commit(crtc);
+    struct view v = view();
+    if (wants_checksums && commit >= 0 && told_commit(commit)->active >> crtc & 1 && !find_checksum(crtc, commit))
+        see_frame(&v, crtc, commit);
 }
 
 /* The plane or the connector with this id, or none. */
@@ -524,10 +491,15 @@ static uint32_t crtc_bit(uint32_t id) {
     return 0;
 }
 
-/* How many CRTCs an accepted request names, as the kernel counts them: at each assignment the object's CRTC, before and after
- * it. The CRTCs that planes and connectors are on are kept meanwhile. */
-static unsigned follow_routes(const struct request *r) {
-    uint32_t named = 0;
+static void set_bit(unsigned *bits, unsigned bit, bool is_set) { *bits = is_set ? *bits | bit : *bits & ~bit; }
+
+/* The CRTCs that a request names, as the kernel counts them: at each assignment the object's CRTC, before and after it. The CRTCs that
+ * planes and connectors are on, and those that are active, are kept where it is accepted. */
+static unsigned follow_request(const struct request *r, bool is_accepted) {
+    static struct objects planes_before, connectors_before;
+    unsigned named = 0, active_before = active;
+    planes_before = planes;
+    connectors_before = connectors;
     for (unsigned i = 0; i < r->count; i++) {
         struct object *o = find_routed(r->objects[i]);
         named |= crtc_bit(o ? o->crtc : r->objects[i]);
@@ -535,8 +507,15 @@ static unsigned follow_routes(const struct request *r) {
             o->crtc = r->values[i];
             named |= crtc_bit(o->crtc);
         }
+        if (r->properties[i] == property_id(&crtcs, "ACTIVE"))
+            set_bit(&active, crtc_bit(r->objects[i]), r->values[i]);
     }
-    return __builtin_popcount(named);
+    if (!is_accepted) {
+        planes = planes_before;
+        connectors = connectors_before;
+        active = active_before;
+    }
+    return named;
 }
 
 /* Counts a request among those that wait for its fences, or no longer. */
@@ -546,17 +525,30 @@ static void await_fences(struct request *r, int change) {
             r->in_fences[i]->awaited += change;
 }
 
-static void enter_commit(struct client *c, struct request *r, uint32_t flags) {
+static void enter_commit(struct client *c, struct request *r, uint32_t flags, uint64_t user_data) {
     char text[32];
-    snprintf(text, sizeof text, "commit %u", commit_count);
+    snprintf(text, sizeof text, "commit %u", told_commits());
     answer(c, true, text);
     keep_out_fences(c, r);
-    unsigned named = follow_routes(r);
-    if (flags & DRM_MODE_PAGE_FLIP_EVENT)
-        c->reserved += named;
-    if (wants_crc && !(flags & DRM_MODE_ATOMIC_NONBLOCK))
-        print_checksums(commit_count);
-    commit_count++;
+    unsigned named = follow_request(r, true);
+    bool has_event = flags & DRM_MODE_PAGE_FLIP_EVENT;
+    tell_commit(&(struct commit){c->number, has_event, user_data, named, active});
+    c->reserved += has_event ? __builtin_popcount(named) : 0;
+    for (unsigned i = 0; i < crtcs.count && !(flags & DRM_MODE_ATOMIC_NONBLOCK); i++)
+        if (named >> i & 1)
+            see_flipped(i);
+}
+
+/* What a refusal for want of space or of a free CRTC tells besides its errno, by the tool's own books. */
+static void answer_refusal(struct client *c, const struct request *r, int error) {
+    answer_error(c, error);
+    c->reply.used = 32 * c->reserved;
+    unsigned named = follow_request(r, false);
+    for (unsigned i = 0; i < crtcs.count && c->reply.busy_crtc < 0; i++)
+        if (named >> i & 1 && last_commit(i) >= 0) {
+            c->reply.busy_crtc = i;
+            c->reply.busy_commit = last_commit(i);
+        }
 }
 
 static void do_atomic(struct client *c, char **words, unsigned count) {
@@ -567,15 +559,16 @@ static void do_atomic(struct client *c, char **words, unsigned count) {
     bool is_test = flags & DRM_MODE_ATOMIC_TEST_ONLY;
     if (!is_test)
         await_fences(r, 1);
-    int error = commit_request(c, r, flags, strtoull(words[2], NULL, 10));
+    uint64_t user_data = strtoull(words[2], NULL, 10);
+    int error = commit_request(c, r, flags, user_data);
     if (error && !is_test)
         await_fences(r, -1);
     if (error)
-        answer_error(c, error);
+        answer_refusal(c, r, error);
     else if (is_test)
         answer(c, false, "tested");
     else
-        enter_commit(c, r, flags);
+        enter_commit(c, r, flags, user_data);
     free(r);
 }
 
@@ -609,12 +602,10 @@ static void do_wait(struct client *c) {
     }
     if (c->reserved)
         c->reserved--;
-    char text[96];
-    unsigned id = FIRST_CRTC + crtc_index(event.crtc_id);
-    snprintf(text, sizeof text, "event %llu %u %u", (unsigned long long)event.user_data, event.sequence, id);
-    fprintf(events[c->number - 1], "E %d %llu %u %u\n", c->number, (unsigned long long)event.user_data, event.sequence,
-            id);
-    answer(c, false, text);
+    unsigned crtc = crtc_index(event.crtc_id);
+    c->reply.event = tell_event(&(struct event){c->number, event.user_data, event.sequence, crtc});
+    if (commit_of_event(c->reply.event) == last_commit(crtc))
+        see_flipped(crtc);
 }
 
 /* Clients */
@@ -647,13 +638,13 @@ static void execute(struct client *c, char *line) {
         give_up("not a command", name);
 }
 
-/* The reply to a command, and its place in the journal: by the order in which calls come back. */
-static void record(struct client *c, unsigned command) {
-    fprintf(replies[c->number - 1], "R %d %u %u %s\n", c->number, command, journal_count, c->reply);
-    if (c->is_accepted) {
-        journal = realloc(journal, (journal_count + 1) * sizeof *journal);
-        journal[journal_count++] = (struct entry){c->number, command};
-    }
+/* Executes a command, and tells the reply and its place in the journal: by the order in which calls come back. */
+static void run_command(struct client *c, unsigned command) {
+    c->reply = (struct reply){.client = c->number, .command = command, .event = -1, .busy_crtc = -1};
+    execute(c, c->lines[command - 1]);
+    c->reply.place = journal_count;
+    journal_count += c->reply.is_accepted;
+    tell_reply(&c->reply);
 }
 
 static void *run_client(void *of) {
@@ -662,8 +653,7 @@ static void *run_client(void *of) {
         sem_wait(&c->turn);
         pthread_mutex_lock(&table);
         /* strtok is of the thread that holds the table */
-        execute(c, c->lines[i]);
-        record(c, i + 1);
+        run_command(c, i + 1);
         pthread_mutex_unlock(&table);
         sem_post(&c->answered);
     }
@@ -730,8 +720,6 @@ static void add_client(const char *path) {
     c->file = open_card(path);
     sem_init(&c->turn, 0, 0);
     sem_init(&c->answered, 0, 0);
-    replies[c->number - 1] = open_memstream(&reply_texts[c->number - 1], &text_size);
-    events[c->number - 1] = open_memstream(&event_texts[c->number - 1], &text_size);
 }
 
 static void add_command(const char *line) {
@@ -783,24 +771,26 @@ static void turn_off(struct client *c) {
     free(r);
 }
 
-/* Calls that come back meanwhile wait for the table. */
-static void print_report(bool is_drained) {
+/* Prints what was told. Calls that come back meanwhile wait for the table. */
+static int print_told(bool is_drained, const struct expected *expected) {
+    char end[32] = "D drained";
     pthread_mutex_lock(&table);
-    for (unsigned i = 0; i < journal_count; i++)
-        printf("J %d %u\n", journal[i].client, journal[i].command);
-    for (unsigned i = 0; i < client_count; i++) {
-        fflush(replies[i]);
-        fputs(reply_texts[i], stdout);
-    }
-    fflush(checksums);
-    fputs(checksum_text, stdout);
-    for (unsigned i = 0; i < client_count; i++) {
-        fflush(events[i]);
-        fputs(event_texts[i], stdout);
-    }
     const struct thing *fence = awaited_fence();
-    printf(is_drained ? "D drained\n" : "D stalled %s\n", fence ? fence->label : "");
+    if (!is_drained)
+        snprintf(end, sizeof end, "D stalled %s", fence ? fence->label : "");
+    int status = 0;
+    if (!expected) {
+        print_answers(end);
+    } else {
+        struct view v = view();
+        bool is_vkms = client_count && is_driver(v.file, "vkms");
+        if (!is_vkms && is_drained)
+            see_alone(&v, expected);
+        status = print_report(end, expected, is_vkms);
+    }
     fflush(stdout);
+    pthread_mutex_unlock(&table);
+    return status ? status : is_drained ? 0 : 5;
 }
 
 /* What still waits in the kernel is let go. */
@@ -813,18 +803,19 @@ static void signal_all(void) {
 
 int main(int count, char **words) {
     bool wants_description = count == 3 && !strcmp(words[2], "--describe");
-    wants_crc = count == 3 && !strcmp(words[2], "--crc");
-    if (count < 2 || count > 3 || (count == 3 && !wants_description && !wants_crc))
-        give_up("usage: on_kernel CARD [--crc] < SCRIPT, on_kernel CARD --describe", "");
+    bool wants_report = count == 4 && !strcmp(words[2], "--report");
+    wants_checksums = wants_report || (count == 3 && !strcmp(words[2], "--crc"));
+    if (count < 2 || (count > 2 && !wants_description && !wants_checksums))
+        give_up("usage: on_kernel CARD [--crc] < SCRIPT, on_kernel CARD --report EXPECTED < SCRIPT, on_kernel CARD --describe", "");
     int file = open_card(words[1]);
     if (wants_description) {
         describe(file);
         return 0;
     }
+    const struct expected *expected = wants_report ? read_expected(words[3]) : NULL;
     struct stat card;
     fstat(file, &card);
     card_minor = minor(card.st_rdev);
-    checksums = open_memstream(&checksum_text, &text_size);
     read_script(words[1], file);
     drmDropMaster(file);
     if (client_count)
@@ -834,8 +825,7 @@ int main(int count, char **words) {
         if (pthread_create(&thread, NULL, run_client, &clients[i]))
             give_up("no thread", "");
     }
-    bool is_drained = run_all();
-    print_report(is_drained);
+    int status = print_told(run_all(), expected);
     signal_all();
-    return is_drained ? 0 : 5;
+    return status;
 }
