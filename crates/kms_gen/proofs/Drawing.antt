@@ -6,7 +6,8 @@ use Rattle.kms_model.specs.declared.scripts.Command.{Command}
 use Rattle.kms_model.specs.Script.Generated.{drawn_from, flips_of, next_number}
 
 -- one commit more is done, and one less is to come
-pub drawn_more : (crtc i x k left : ℕ) (old new : List Command) → left ≡ suc k → new ≡ old ++ flips_of crtc (record { index = i; number = next_number x / 2 ^ 33 })
+pub drawn_more : (crtc i x k left : ℕ) (old new : List Command) → left ≡ suc k
+    → new ≡ old ++ flips_of crtc (record { index = i; number = next_number x / 2 ^ 33 })
     → new ++ flat_map (flips_of crtc) (drawn_from (i + 1) (next_number x) k) ≡ old ++ flat_map (flips_of crtc) (drawn_from i x left)
 unfolding drawn_from
 drawn_more crtc i x k left old new more done = rw (more, done) (append_assoc old _ _)

@@ -1,4 +1,1 @@
 pub mod Drawing
-pub mod Flipped
-pub mod Limits
-pub mod Spelt

@@ -8,4 +8,4 @@ mod labels;
 mod numbers;
 mod scripts;
 
-pub use scripts::{generate, generated_scripts_are_well_formed};
+pub use scripts::generate;

@@ -1,8 +1,6 @@
 //! Whole scripts.
 ghost use Rattle.std.specs.Prelude.{◌≡◌, ◌≤◌, ◌++◌, IfOk, codes};
 ghost use Rattle.kms_model.specs.Script.Generated.{generated, generated_device, names_of_client};
-ghost use Rattle.kms_model.specs.Script.WellFormed.{IsWellFormed};
-ghost use Rattle.kms_gen.specs.Laws.{AreWellFormed};
 
 use crate::commands::commands_for;
 use crate::labels::push_names;
@@ -40,14 +38,11 @@ fn generated_names(alloc: Global) -> Result<Seq<Seq<u8>>, NoMemory>
 /// The script of a seed with this many commits, from 1 to 4000. Two clients each light a CRTC with 64 by 64 pixels, and
 /// then take turns, a commit each. A commit shows one of two framebuffers, with an alpha from 0 to 65535 and from 0 to 63
 /// pixels from the left, by a number of the generator; its user data is its place from 1, and the wait for its event
-/// follows it. The only error is want of memory.
+/// follows it. Some text spells it (`kms_script`: `generated_scripts_are_well_formed`). The only error is want of memory.
 pub fn generate(alloc: Global, seed: u64, n: u32) -> Result<Script, NoMemory>
     requires some { 1 ≤ n }
     requires few { n ≤ 4000 }
-    ensures exact { IfOk result (λ s. s ≡ generated seed n) }
-
-    // A machine can be made of it, and some text spells it.
-    ensures formed { IfOk result IsWellFormed }
+    ensures { IfOk result (λ s. s ≡ generated seed n) }
 {
     let clients = [
         commands_for(alloc, 0, seed, n)?,
@@ -60,8 +55,3 @@ pub fn generate(alloc: Global, seed: u64, n: u32) -> Result<Script, NoMemory>
         clients: Seq::from_vec(Vec::from_array(alloc, clients)?),
     })
 }
-
-/// Each generated script is one that a machine can be made of, and that some text spells.
-pub fn generated_scripts_are_well_formed()
-    ensures { AreWellFormed }
-{}

@@ -64,10 +64,6 @@ no_conns d n e early = by_nil (is_nil d.conns) refl
     by_nil true is = refl
     by_nil false is = absurd (false≢true (sym early ∙ ap (λ h. h == 2) (e.head is)))
 
-nil_grows : {A : Type 0} (xs : List A) (x : A) → is_nil (xs ++ x ∷ []) ≡ false
-nil_grows [] x = refl
-nil_grows (y ∷ ys) x = refl
-
 first_early : (d next : Draft) (n : ℕ) (text : List ℕ) → IsEarly d n → d.head ≡ 0 → first_line d text ≡ Ok next → IsEarly next (n + 1)
 unfolding first_line
 first_early d next n text e zeroth is =

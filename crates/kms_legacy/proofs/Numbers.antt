@@ -2,27 +2,16 @@
 use Rattle.std.proofs.Common.{◌≡◌, ℕ, Bool, true, ℤ, pos, negsuc, Option, Some, None, refl, arith}
 use Rattle.std.specs.Prelude.{◌&&◌, IfSome, int_le}
 use Rattle.std.specs.List.{list_all}
-use Rattle.std.proofs.lemmas.Bool.{and_parts, ltb-true}
+use Rattle.std.proofs.lemmas.Bool.{and_parts}
 use Rattle.std.proofs.lemmas.Bool.Decides.{nat_tests}
-use Rattle.kms_model.specs.declared.objects.Kind.TheVariants.{Crtc}
-use Rattle.kms_model.specs.declared.objects.Topology.{Topology}
 use Rattle.kms_model.specs.declared.ranges.Range.{Range}
 use Rattle.kms_model.specs.declared.ranges.Range.TheVariants.{Numbers, Thing, CrtcName}
 use Rattle.kms_model.specs.declared.sets.SetValue.TheVariants as to
-use Rattle.kms_model.specs.Device.Objects.{exists}
-use Rattle.kms_model.specs.Device.Properties.{Property, has_id, keeps_limits, properties, property}
-use Rattle.kms_model.specs.Device.Sound.{IsDevice}
+use Rattle.kms_model.specs.Device.Properties.{Property, has_id, properties, property}
 use Rattle.kms_model.specs.Legacy.LegacyCalls.{is_number}
 use Rattle.kms_model.specs.Request.Resolves.{IsSettableNumber}
 use Rattle.kms_model.specs.Request.SetRanges.{is_among_row, range_takes}
 use Rattle.kms_model.proofs.PropertyTable.{find-list_all}
-use Rattle.kms_model.proofs.RequestLemmas.{has_few}
-use Rattle.kms_legacy.specs.Asked.{IsWithin}
-
-pub within : (t : Topology) (crtc : ℕ) → IsDevice t → exists t Crtc crtc ≡ true → IsWithin t crtc
-within t crtc device there =
-    let few = has_few t (and_parts (keeps_limits t) _ device.legal).0 in
-    record { few = omega (arith, few.crtcs, ltb-true crtc t.crtcs there); planes = few.planes; conns = few.conns }
 
 -- the numbers of a range have few bits
 abbrev is_narrow : Range → Bool

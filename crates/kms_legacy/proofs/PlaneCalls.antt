@@ -242,13 +242,6 @@ pub read_other : {A : Type 0} (d x : A) (rows : List (ℕ × A)) (id other : ℕ
 unfolding read
 read_other d x rows id other apart = rw apart refl
 
-pub placed_here : (plane : ℕ) (x : Option Placed) (screen : Screen) → placed_at (with_placed plane x screen) plane ≡ x
-placed_here plane x screen = read_first None x screen.placed plane
-
-pub placed_there : (plane other : ℕ) (x : Option Placed) (screen : Screen) → (plane == other) ≡ false
-    → placed_at (with_placed plane x screen) other ≡ placed_at screen other
-placed_there plane other x screen apart = read_other None x screen.placed plane other apart
-
 -- the world after accepted assignments
 abbrev pub changed : World → List Assign → ℕ → World
 changed w assigns commits = record w { values = apply w.things w.values assigns; commits = commits }

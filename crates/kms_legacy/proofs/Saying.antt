@@ -22,11 +22,9 @@ use Rattle.kms_model.specs.Script.WellFormed.{IsFitCommand}
 use Rattle.kms_words.specs.Fitting.{HasFilled}
 use Rattle.kms_legacy.specs.declared.errors.LegacyError.{LegacyError}
 use Rattle.kms_legacy.specs.declared.errors.LegacyError.TheVariants as errors
-use Rattle.kms_commands.specs.Named.{HeldNames}
-use Rattle.kms_serial.specs.Device.{Device}
 use Rattle.kms_legacy.specs.declared.script.Going.{Going}
 use Rattle.kms_legacy.specs.Asked.{GivesRequest}
-use Rattle.kms_legacy.specs.Translating.{GoesOn, IsAtStart, IsLeft, IsOver, IsPassed, IsSaidAnew, said_names, script_of}
+use Rattle.kms_legacy.specs.Translating.{GoesOn, IsLeft, IsOver, IsPassed, IsSaidAnew, said_names, script_of}
 
 -- what holds of a request that is stated holds of one that is given
 pub given_holds : (P : Request → Type 0) (r : Result Request LegacyError) (stated : Result Request ℕ) → GivesRequest r stated
@@ -97,27 +95,6 @@ on_ok (Ok x) P Q more p = more p
 on_ok (Err e) P Q more p = tt
 
 -- All commands
-
--- before the first one
-pub start_over : (t : Topology) (g : Going) → IsAtStart t g → IsOver t g
-start_over t g at = record {
-  profile = ap (λ (h : HeldNames). h.names.profile) at.blank;
-  device = ap (λ (d : Device). d.topology) at.device;
-}
-
-pub record IsNew (g : Going) : Type 0 where
-  pub all : length (said_names g).all ≡ 0
-  pub made : (said_names g).made ≡ 0
-  pub ids : g.serial.world.next_id ≡ 1000
-  pub commits : g.serial.world.commits ≡ 0
-
-pub start_new : (t : Topology) (g : Going) → IsAtStart t g → IsNew g
-start_new t g at = record {
-  all = ap (λ (h : HeldNames). length h.names.all) at.blank;
-  made = ap (λ (h : HeldNames). h.names.made) at.blank;
-  ids = ap (λ (d : Device). d.world.next_id) at.device;
-  commits = ap (λ (d : Device). d.world.commits) at.device;
-}
 
 pub next_over : (t : Topology) (a b : Going) → GoesOn a b → IsOver t a → IsOver t b
 next_over t a b goes over = record { profile = goes.profile ∙ over.profile; device = goes.device ∙ over.device }

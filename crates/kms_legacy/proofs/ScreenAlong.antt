@@ -49,7 +49,7 @@ use Rattle.kms_model.proofs.SeenLemmas.{gamma-seen, mode-seen, plane-seen}
 use Rattle.kms_model.proofs.SoundKept.{execution_keeps_lawful}
 use Rattle.kms_model.proofs.SoundStart.{start-crtc, start-zero, start_is_lawful}
 use Rattle.kms_model.proofs.StartValues.{plane_value}
-use Rattle.kms_commands.specs.Named.{HeldNames}
+use Rattle.kms_words.specs.Named.{HeldNames}
 use Rattle.kms_script.specs.ReadAnew.{IsLineOf, RequestsAreReadBack, makes_nothing, renamed, renamed_assign, renamed_value}
 use Rattle.kms_script.proofs.NamesBegin.{Begins}
 use Rattle.kms_script.proofs.ProfileStays.{command_stays}
@@ -66,7 +66,7 @@ use Rattle.kms_legacy.proofs.LinesAnew.{command_of_both, no_atomic, own_names, t
 use Rattle.kms_legacy.proofs.LinesLed.{SaysAll, before_said, fb_same, leads, look_same, meant_same, mode_same, says_all}
 use Rattle.kms_legacy.proofs.NewText.{after_of_both, call_quiet, plain_meant}
 use Rattle.kms_legacy.proofs.PlaneCalls.{IsThere, changed}
-use Rattle.kms_legacy.proofs.ScreenCalls.{call_kept, call_with, fb_with, mode_with, not_tested, request_with, screen_with, stands_with}
+use Rattle.kms_legacy.proofs.ScreenCalls.{call_kept, call_with, is_renumbered, not_tested, request_with, screen_with}
 use Rattle.kms_legacy.proofs.ScreenShown.{IsLit, IsScreenOf, shows}
 use Rattle.kms_legacy.proofs.WholeScripts.{starts_said}
 
@@ -269,10 +269,11 @@ call_step back old all t k d a m screen said device stands left says of begins l
     below_wider (length (said_names a).all) (length (said_names m).all) a.serial.world.things
     (names_grow (said_names a) (said_names m) said.text said.command said.read) says in
     let looks = λ (label : ℕ). sym (look_same old all (said_names m) a.serial.world below begins label) in
+    let renumbering = is_renumbered (renumbered old (words_in (said_names m))) t (look_up a.serial.world) k in
     let of_mode = mode_same (look_anew old all a.serial.world) (look_anew old (words_in (said_names m)) a.serial.world) k looks
-    ∙ mode_with (renumbered old (words_in (said_names m))) (look_up a.serial.world) k in
+    ∙ renumbering.mode in
     let of_fb = fb_same (look_anew old all a.serial.world) (look_anew old (words_in (said_names m)) a.serial.world) k looks
-    ∙ fb_with (renumbered old (words_in (said_names m))) (look_up a.serial.world) k in
+    ∙ renumbering.fb in
     let tests : is_test asked.request.flags ≡ false =
     not_tested t (present_in w) (mode_of_call (look_anew old all w) k) (fb_of_call (look_anew old all w) k) k asked.request asked.asked in
     subst (λ (x : Command). IsAfter old all t a.serial.world k screen (execute t a.serial.world 1 x)) (sym c)
@@ -282,7 +283,7 @@ call_step back old all t k d a m screen said device stands left says of begins l
     subst (λ (s : Screen). IsScreenOf t s (changed w q.assigns (w.commits + 1)))
     (screen_with f t (mode_of_call (look_anew old all w) k) (fb_of_call (look_anew old all w) k) k screen)
     (call_kept t w screen (w.commits + 1) (mode_of_call (look_anew old all w) k) (fb_of_call (look_anew old all w) k)
-    (call_with f k) q device lawful is (stands_with f t k ∙ stands) of_mode of_fb none
+    (call_with f k) q device lawful is (renumbering.stands ∙ stands) of_mode of_fb none
     (request_with f t (present_in w) (mode_of_call (look_anew old all w) k)
     (fb_of_call (look_anew old all w) k) k asked.request asked.asked))))
 

@@ -101,36 +101,21 @@ call_with f (call.Cursor crtc fb x y) = call.Cursor crtc (f fb) x y
 call_with f (call.CursorMove crtc x y) = call.CursorMove crtc x y
 call_with f (call.CursorOff crtc) = call.CursorOff crtc
 
-pub mode_with : (f : ℕ → ℕ) (look : ℕ → Look) (c : LegacyCall)
-    → mode_of_call (λ label. look (f label)) c ≡ mode_of_call look (call_with f c)
-mode_with f look (call.SetCrtc crtc fb x y mode conn) = refl
-mode_with f look (call.CrtcOff crtc) = refl
-mode_with f look (call.SetPlane plane crtc fb dst src) = refl
-mode_with f look (call.PlaneOff plane) = refl
-mode_with f look (call.PageFlip crtc fb event user) = refl
-mode_with f look (call.Cursor crtc fb x y) = refl
-mode_with f look (call.CursorMove crtc x y) = refl
-mode_with f look (call.CursorOff crtc) = refl
+-- it looks up what stands behind these numbers, and may stand where the call may
+pub record IsRenumbered (f : ℕ → ℕ) (t : Topology) (look : ℕ → Look) (c : LegacyCall) : Type 0 where
+  pub mode : mode_of_call (λ label. look (f label)) c ≡ mode_of_call look (call_with f c)
+  pub fb : fb_of_call (λ label. look (f label)) c ≡ fb_of_call look (call_with f c)
+  pub stands : call_may_stand t (call_with f c) ≡ call_may_stand t c
 
-pub fb_with : (f : ℕ → ℕ) (look : ℕ → Look) (c : LegacyCall) → fb_of_call (λ label. look (f label)) c ≡ fb_of_call look (call_with f c)
-fb_with f look (call.SetCrtc crtc fb x y mode conn) = refl
-fb_with f look (call.CrtcOff crtc) = refl
-fb_with f look (call.SetPlane plane crtc fb dst src) = refl
-fb_with f look (call.PlaneOff plane) = refl
-fb_with f look (call.PageFlip crtc fb event user) = refl
-fb_with f look (call.Cursor crtc fb x y) = refl
-fb_with f look (call.CursorMove crtc x y) = refl
-fb_with f look (call.CursorOff crtc) = refl
-
-pub stands_with : (f : ℕ → ℕ) (t : Topology) (c : LegacyCall) → call_may_stand t (call_with f c) ≡ call_may_stand t c
-stands_with f t (call.SetCrtc crtc fb x y mode conn) = refl
-stands_with f t (call.CrtcOff crtc) = refl
-stands_with f t (call.SetPlane plane crtc fb dst src) = refl
-stands_with f t (call.PlaneOff plane) = refl
-stands_with f t (call.PageFlip crtc fb event user) = refl
-stands_with f t (call.Cursor crtc fb x y) = refl
-stands_with f t (call.CursorMove crtc x y) = refl
-stands_with f t (call.CursorOff crtc) = refl
+pub is_renumbered : (f : ℕ → ℕ) (t : Topology) (look : ℕ → Look) (c : LegacyCall) → IsRenumbered f t look c
+is_renumbered f t look (call.SetCrtc crtc fb x y mode conn) = record { mode = refl; fb = refl; stands = refl }
+is_renumbered f t look (call.CrtcOff crtc) = record { mode = refl; fb = refl; stands = refl }
+is_renumbered f t look (call.SetPlane plane crtc fb dst src) = record { mode = refl; fb = refl; stands = refl }
+is_renumbered f t look (call.PlaneOff plane) = record { mode = refl; fb = refl; stands = refl }
+is_renumbered f t look (call.PageFlip crtc fb event user) = record { mode = refl; fb = refl; stands = refl }
+is_renumbered f t look (call.Cursor crtc fb x y) = record { mode = refl; fb = refl; stands = refl }
+is_renumbered f t look (call.CursorMove crtc x y) = record { mode = refl; fb = refl; stands = refl }
+is_renumbered f t look (call.CursorOff crtc) = record { mode = refl; fb = refl; stands = refl }
 
 -- no number of a label changes the screen
 pub screen_with : (f : ℕ → ℕ) (t : Topology) (mode : Option Mode) (fb : Option FbInfo) (c : LegacyCall) (screen : Screen)

@@ -19,7 +19,7 @@ use Rattle.kms_model.specs.Script.WellFormed.{IsFitClient, IsFitCommand, IsWellF
 use Rattle.kms_model.specs.Script.WholeInput.{Draft, blank_draft, clients_of, is_nil, script_in}
 use Rattle.kms_model.proofs.Facts.{all-from_recursion}
 use Rattle.kms_words.specs.Fitting.{KeepsLimits}
-use Rattle.kms_commands.specs.Named.{HeldNames}
+use Rattle.kms_words.specs.Named.{HeldNames}
 use Rattle.kms_script.specs.ReadAnew.{FormsNeedNoNames, RequestsAreReadBack}
 use Rattle.kms_script.proofs.Formed.{well_formed}
 use Rattle.kms_script.proofs.NamesBegin.{Begins}

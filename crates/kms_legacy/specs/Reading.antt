@@ -6,7 +6,7 @@ use Rattle.kms_model.specs.Legacy.LegacyLines.{LegacyDraft, LegacyLined, blank_l
 use Rattle.kms_model.specs.Script.CommandLines.{unmade}
 use Rattle.kms_model.specs.Script.InputLines.{Row, rows_of}
 use Rattle.kms_model.specs.Script.WholeInput.{Draft, is_conn_of, is_nil, script_limit}
-use Rattle.kms_commands.specs.Named.{NamesGrow}
+use Rattle.kms_words.specs.Named.{NamesGrow}
 use Rattle.kms_script.specs.declared.stop.Stop.{Stop}
 use Rattle.kms_script.specs.declared.stop.Stop.TheVariants as stops
 use Rattle.kms_legacy.specs.declared.reading.Lines.{Lines}

@@ -17,7 +17,7 @@ use Rattle.kms_model.specs.Legacy.Translated.{meant}
 use Rattle.kms_model.specs.Script.CommandLines.{Names, command_read, is_over, words_in}
 use Rattle.kms_model.specs.Script.WellFormed.{IsFitCommand, is_command_in, is_label_in}
 use Rattle.kms_model.specs.Script.WholeInput.{clients_of}
-use Rattle.kms_commands.specs.Named.{NamesGrow, kept}
+use Rattle.kms_words.specs.Named.{NamesGrow, kept}
 use Rattle.kms_script.specs.ReadAnew.{IsLineOf}
 use Rattle.kms_legacy.specs.declared.script.Going.{Going}
 

@@ -1,14 +1,13 @@
 //! Lines of older calls, and the other lines of a client in such scripts.
 ghost use Rattle.std.specs.Prelude.{◌≡◌, ◌+◌, IfOk, OnOk, length, option_map};
 ghost use Rattle.kms_model.specs.Legacy.LegacyCalls.{call_read, cursor_fields, cursor_read, is_call_word, legacy_command_read, pageflip_read, setcrtc_fields, setcrtc_read, setplane_fields, setplane_read};
-ghost use Rattle.kms_commands.specs.Named.{HasRoomForNames, NamesGrow};
+ghost use Rattle.kms_words.specs.Named.{HasRoomForNames, NamesGrow};
 
 use crate::fields::{
     is_off, take_corner, take_destination, take_event, take_index, take_named, take_part,
 };
-use kms_commands::{Names, command_of};
 use kms_model::{Kind, LegacyCall, LegacyCommand, NoMemory, Topology};
-use kms_words::{split_at_byte, strip, take_dec, take_end};
+use kms_words::{Names, command_of, split_at_byte, strip, take_dec, take_end};
 use std::alloc::Global;
 
 /// The most pixels of an edge of a framebuffer that stand before what `setcrtc` shows.

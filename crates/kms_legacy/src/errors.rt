@@ -25,7 +25,7 @@ impl From<NoMemory> for LegacyError {
 }
 
 /// The error of a call that a rule refuses.
-pub fn refused(refusal: LegacyRefusal) -> LegacyError
+pub fn refuse(refusal: LegacyRefusal) -> LegacyError
     ensures { result ≡ Refused refusal.0 }
 {
     LegacyError::Refused { number: refusal.0 }

@@ -53,7 +53,7 @@ fn is_number(prop: u32, number: i128) -> bool
 }
 
 /// A number from -2147483648 to 4294967295, in fewer bits.
-fn narrowed(number: i128) -> i64
+fn narrow(number: i128) -> i64
     requires { IsSettableNumber number }
     ensures { result ≡ number }
 {
@@ -68,7 +68,7 @@ fn take_ranged(prop: u32, bytes: &[u8]) -> Option<(i64, &[u8])>
     let (word, rest) = take_field(bytes)?;
     let number = read_int(word)?;
     if is_number(prop, number) {
-        Some((narrowed(number), rest))
+        Some((narrow(number), rest))
     } else {
         None
     }

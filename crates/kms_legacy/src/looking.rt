@@ -3,13 +3,12 @@ ghost use Rattle.std.specs.Prelude.{◌≡◌};
 ghost use Rattle.kms_model.specs.Legacy.Translated.{fb_of_call, look_anew, mode_of_call};
 ghost use Rattle.kms_model.specs.Request.Sets.{fb_of_look, mode_of_look};
 ghost use Rattle.kms_model.specs.Script.CommandLines.{words_in};
-ghost use Rattle.kms_commands.specs.Named.{HasRoomForNames};
+ghost use Rattle.kms_words.specs.Named.{HasRoomForNames};
 ghost use Rattle.kms_legacy.specs.Asked.{HasFbSize, HasModeSize};
 
-use kms_commands::Names;
 use kms_model::{FbInfo, LegacyCall, Look, Mode, Seq};
 use kms_serial::Serial;
-use kms_words::name_word;
+use kms_words::{Names, name_word};
 
 /// The legal mode that a label names.
 fn mode_of(look: Look) -> Option<Mode>

@@ -3,19 +3,19 @@ ghost use Rattle.std.specs.Prelude.{◌≡◌, ◌<◌, ◌≤◌, ◌+◌, ℕ,
 ghost use Rattle.kms_model.specs.Legacy.LegacyLines.{blank_legacy_draft, legacy_command_line, legacy_drafted, legacy_input, legacy_line_after, legacy_lines_after, legacy_script_in, SpellsLegacy};
 ghost use Rattle.kms_model.specs.Script.InputLines.{rows_of};
 ghost use Rattle.kms_model.specs.Script.WholeInput.{is_conn_of, is_nil, script_limit};
-ghost use Rattle.kms_commands.specs.Named.{HasRoomForNames};
+ghost use Rattle.kms_words.specs.Named.{HasRoomForNames};
 ghost use Rattle.kms_script.specs.Drafted.{row_in};
 ghost use Rattle.kms_script.specs.Stated.{Gives};
 ghost use Rattle.kms_legacy.specs.Reading.{AreSoundLines, Becomes, BeginsClient, HasDevice, IsOfDevice, KeepsLines, device_draft, is_full, line_behind, lines_in};
 ghost use Rattle.kms_legacy.specs.Translating.{IsWellFormedLegacy};
 
 use crate::calls::legacy_command_of;
-use kms_commands::Names;
 use kms_model::{LegacyCommand, LegacyScript, Script, Seq, Topology, Why};
 use kms_script::{
     MAX_COMMANDS, MAX_INPUT, MAX_LABELS, MAX_SCRIPT, ParseError, Row, Stop, all_printable,
     read_topology, split_line,
 };
+use kms_words::Names;
 use std::alloc::Global;
 
 /// What the lines so far spell, the line `client` among them.

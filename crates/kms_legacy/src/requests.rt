@@ -10,8 +10,8 @@ ghost use Rattle.kms_model.specs.Script.Generated.{assigns_to};
 ghost use Rattle.kms_legacy.specs.Asked.{IsWithin};
 
 use crate::setting::{
-    Lighting, Size, crtc_off, in_fixed, number_on, plane_off, plane_on, push_conns_off,
-    push_crtc_on, sized_at,
+    Lighting, Size, crtc_off, number_on, plane_off, plane_on, push_conns_off, push_crtc_on,
+    sized_at, source_at,
 };
 use kms_model::flags::{ALLOW_MODESET, NONBLOCK, PAGE_FLIP_EVENT};
 use kms_model::properties::{CRTC_X, CRTC_Y, FB_ID};
@@ -49,7 +49,7 @@ pub fn light(
     let mut assigns = Vec::new(alloc);
     push_crtc_on(&mut assigns, topology, states, lit)?;
     let dst = sized_at(0, 0, size);
-    let src = in_fixed(lit.x, lit.y, size);
+    let src = source_at(lit.x, lit.y, size);
     assigns.extend_from_slice(&plane_on(plane, lit.crtc, lit.fb, dst, src))?;
     Ok(plain_request(ALLOW_MODESET, assigns))
 }
@@ -74,7 +74,7 @@ pub fn darken(
 }
 
 /// What puts a plane on a CRTC.
-pub fn put(
+pub fn place(
     alloc: Global,
     plane: u32,
     crtc: u32,

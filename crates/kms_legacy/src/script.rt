@@ -8,7 +8,7 @@ ghost use Rattle.kms_model.specs.Legacy.Screen.{KeepsScreen};
 ghost use Rattle.kms_model.specs.Legacy.Translated.{IsTranslated, translated};
 ghost use Rattle.kms_model.specs.Script.CommandLines.{command_read, words_in};
 ghost use Rattle.kms_model.specs.Script.WholeInput.{clients_of};
-ghost use Rattle.kms_commands.specs.Named.{HasRoomForNames, NamesGrow};
+ghost use Rattle.kms_words.specs.Named.{HasRoomForNames, NamesGrow};
 ghost use Rattle.kms_words.specs.Fitting.{HasFilled};
 ghost use Rattle.kms_legacy.specs.Asked.{GivesRequest};
 ghost use Rattle.kms_legacy.specs.Translating.{ArePassed, GoesOn, HasRoomToGo, IsAtStart, IsFitCall, IsFitLegacy, IsFitLine, IsOver, IsPassed, IsReadAnew, IsSaidAnew, IsWellFormedLegacy, said_names, script_of};
@@ -16,13 +16,13 @@ ghost use Rattle.kms_legacy.specs.Translating.{ArePassed, GoesOn, HasRoomToGo, I
 use crate::errors::LegacyError;
 use crate::looking::{fb_of_call, mode_of_call};
 use crate::translating::translate;
-use kms_commands::{Names, command_of};
 use kms_model::{
     Command, Duplicate, LegacyCall, LegacyCommand, LegacyScript, NoMemory, Request, Script, Seq,
     Topology,
 };
 use kms_script::{forms_need_no_names, print_command, requests_are_read_back};
 use kms_serial::Serial;
+use kms_words::{Names, command_of};
 use std::alloc::Global;
 
 /// A translation that goes on.
@@ -52,7 +52,7 @@ fn read_anew(alloc: Global, names: &mut Names, line: &[u8]) -> Result<Command, N
 }
 
 /// The request that a call asks for, with the labels of the old script.
-fn asked(
+fn translate_call(
     alloc: Global,
     topology: &Topology,
     old: &[Seq<u8>],
@@ -116,7 +116,7 @@ fn pass(
 {
     match command {
         LegacyCommand::Plain(command) => say_anew(alloc, topology, old, going, command),
-        LegacyCommand::Call(call) => match asked(alloc, topology, old, going, call) {
+        LegacyCommand::Call(call) => match translate_call(alloc, topology, old, going, call) {
             Ok(request) => say_anew(alloc, topology, old, going, &Command::Atomic(request)),
             Err(LegacyError::Refused { .. }) => Ok(()),
             Err(LegacyError::NoMemory) => Err(NoMemory),
@@ -169,7 +169,7 @@ fn clients_of(
 }
 
 /// The new script, once all commands are translated.
-fn finished(alloc: Global, script: &LegacyScript, going: Going) -> Result<Script, NoMemory>
+fn finish(alloc: Global, script: &LegacyScript, going: Going) -> Result<Script, NoMemory>
     ensures value { IfOk result (λ out. out ≡ script_of script.now going) }
     ensures differ { IfOk result (λ out. IsDistinct bytes_eq out.names) }
 {
@@ -196,5 +196,5 @@ pub fn translate_script(alloc: Global, script: &LegacyScript) -> Result<Script, 
     requests_are_read_back();
     let mut going = begin(alloc, &script.base.topology)?;
     pass_all(alloc, script, &mut going)?;
-    finished(alloc, script, going)
+    finish(alloc, script, going)
 }

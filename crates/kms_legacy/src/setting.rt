@@ -100,21 +100,21 @@ pub fn sized_at(x: i64, y: i64, size: Size) -> Rect
 }
 
 /// A number of pixels in 16.16 fixed point.
-fn fixed(pixels: u32) -> i64
+fn to_fixed(pixels: u32) -> i64
     ensures { result ≡ pos (65536 * pixels) }
 {
     65536 * i64::from(pixels)
 }
 
 /// A source in 16.16 fixed point, from a pixel on and of a size.
-pub fn in_fixed(x: u32, y: u32, size: Size) -> Rect
+pub fn source_at(x: u32, y: u32, size: Size) -> Rect
     ensures { result ≡ in_fixed x y (size.width, size.height) }
 {
     Rect {
-        x: fixed(x),
-        y: fixed(y),
-        w: fixed(size.width),
-        h: fixed(size.height),
+        x: to_fixed(x),
+        y: to_fixed(y),
+        w: to_fixed(size.width),
+        h: to_fixed(size.height),
     }
 }
 

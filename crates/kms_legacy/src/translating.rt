@@ -9,10 +9,10 @@ ghost use Rattle.kms_model.specs.Legacy.LegacyCalls.{call_may_stand};
 ghost use Rattle.kms_model.specs.Legacy.Translation.{Present, call_request, fb_size, mode_size, present_of};
 ghost use Rattle.kms_legacy.specs.Asked.{GivesRequest, IsNoSetCrtc, IsWithin};
 
-use crate::errors::{LegacyError, refused};
+use crate::errors::{LegacyError, refuse};
 use crate::present::{changes_format, fb_of_plane, is_plane_on};
-use crate::requests::{darken, flip, light, put, shift, take_away};
-use crate::setting::{Lighting, Size, in_fixed, sized_at};
+use crate::requests::{darken, flip, light, place, shift, take_away};
+use crate::setting::{Lighting, Size, sized_at, source_at};
 use crate::special::{CURSOR, PRIMARY, special_plane};
 use kms_model::{Duplicates, FbInfo, LegacyCall, LegacyRefusal, Mode, Request, Topology};
 use std::alloc::Global;
@@ -82,7 +82,7 @@ fn set_crtc(
         (calls.SetCrtc lit.now.crtc lit.now.fb lit.now.x lit.now.y lit.now.mode lit.now.conn)) }
 {
     let Some(plane) = special_plane(topology, PRIMARY, lit.crtc) else {
-        return Err(refused(LegacyRefusal::NO_PLANE));
+        return Err(refuse(LegacyRefusal::NO_PLANE));
     };
     Ok(light(alloc, topology, states, plane, mode_size(mode), lit)?)
 }
@@ -100,7 +100,7 @@ fn set_crtc_off(
         (call_request topology.now (present_of states.now) mode fb (calls.CrtcOff crtc)) }
 {
     let Some(plane) = special_plane(topology, PRIMARY, crtc) else {
-        return Err(refused(LegacyRefusal::NO_PLANE));
+        return Err(refuse(LegacyRefusal::NO_PLANE));
     };
     Ok(darken(alloc, topology, states, plane, crtc)?)
 }
@@ -126,13 +126,13 @@ fn page_flip(
         user_data,
     } = asked;
     let Some(plane) = special_plane(topology, PRIMARY, crtc) else {
-        return Err(refused(LegacyRefusal::NO_PLANE));
+        return Err(refuse(LegacyRefusal::NO_PLANE));
     };
     if !is_plane_on(states, plane, crtc) {
-        return Err(refused(LegacyRefusal::NOT_SHOWN));
+        return Err(refuse(LegacyRefusal::NOT_SHOWN));
     }
     if changes_format(shown, fb_of_plane(states, plane)) {
-        return Err(refused(LegacyRefusal::FORMAT_CHANGES));
+        return Err(refuse(LegacyRefusal::FORMAT_CHANGES));
     }
     Ok(flip(alloc, plane, fb, event, user_data)?)
 }
@@ -152,12 +152,12 @@ fn cursor(
 {
     let CursorShown { crtc, fb, x, y } = asked;
     let Some(plane) = special_plane(topology, CURSOR, crtc) else {
-        return Err(refused(LegacyRefusal::NO_PLANE));
+        return Err(refuse(LegacyRefusal::NO_PLANE));
     };
     let size = fb_size(shown);
     let dst = sized_at(x, y, size);
-    let src = in_fixed(0, 0, size);
-    Ok(put(alloc, plane, crtc, fb, dst, src)?)
+    let src = source_at(0, 0, size);
+    Ok(place(alloc, plane, crtc, fb, dst, src)?)
 }
 
 /// `cursor` with `move`.
@@ -174,7 +174,7 @@ fn cursor_move(
         (call_request topology.now now mode fb (calls.CursorMove crtc x y)) }
 {
     let Some(plane) = special_plane(topology, CURSOR, crtc) else {
-        return Err(refused(LegacyRefusal::NO_PLANE));
+        return Err(refuse(LegacyRefusal::NO_PLANE));
     };
     Ok(shift(alloc, plane, x, y)?)
 }
@@ -187,7 +187,7 @@ fn cursor_off(alloc: Global, topology: &Topology, crtc: u32) -> Result<Request, 
         (call_request topology.now now mode fb (calls.CursorOff crtc)) }
 {
     let Some(plane) = special_plane(topology, CURSOR, crtc) else {
-        return Err(refused(LegacyRefusal::NO_PLANE));
+        return Err(refuse(LegacyRefusal::NO_PLANE));
     };
     Ok(take_away(alloc, plane)?)
 }
@@ -214,7 +214,7 @@ fn translate_other(
             fb,
             dst,
             src,
-        } => Ok(put(alloc, plane, crtc, fb, dst, src)?),
+        } => Ok(place(alloc, plane, crtc, fb, dst, src)?),
         LegacyCall::PlaneOff { plane } => Ok(take_away(alloc, plane)?),
         LegacyCall::PageFlip {
             crtc,

@@ -23,7 +23,8 @@ abbrev Answer : Type 0
 Answer = Result Parsed ParseError
 
 -- what was read within the limits is a well-formed script
-pub read_well : (p : Part) (bytes : List ℕ) (r : Answer) → Gives parts_in r (input_of p bytes) → IfOk r (λ x. KeepsLimits x.script) → IfOk r (λ x. IsWellFormed x.script)
+pub read_well : (p : Part) (bytes : List ℕ) (r : Answer) → Gives parts_in r (input_of p bytes) → IfOk r (λ x. KeepsLimits x.script)
+    → IfOk r (λ x. IsWellFormed x.script)
 read_well p bytes (Ok x) value limits = well_formed (spelling x.script) x.script limits (front_spells p bytes (parts_in x) value)
 read_well p bytes (Err e) value limits = tt
 
@@ -42,7 +43,8 @@ pub line_alone : (size n : ℕ) (r : Lined) (f : Draft → Result Parts Fault) (
 line_alone size n (Ok d) f g same = same d
 line_alone size n (Err why) f g same = refl
 
-lines_alone : (size n : ℕ) (d : Draft) (rows : List Row) → parts_after part.Script size d n rows ≡ alone size (drafted (lines_after d n rows))
+lines_alone : (size n : ℕ) (d : Draft) (rows : List Row)
+    → parts_after part.Script size d n rows ≡ alone size (drafted (lines_after d n rows))
 unfolding parts_after lines_after
 lines_alone size n d [] = end_alone (is_nil d.conns) size n d
 lines_alone size n d (row ∷ rows) = line_alone size n (line_after d row) _ _ (λ next. lines_alone size (n + 1) next rows)
@@ -66,16 +68,19 @@ fault_alone size (Err other) fault e = cc
 
 script_given : (bytes : List ℕ) (r : Answer) → Gives parts_in r (input_of part.Script bytes) → Gives (λ x. x.script) r (input bytes)
 script_given bytes (Ok x) e = given_alone (length bytes) (input bytes) (parts_in x) (sym (input_alone bytes) ∙ e)
-script_given bytes (Err (errors.Fault line why)) e = fault_alone (length bytes) (input bytes) (record { line = line; why = why }) (sym (input_alone bytes) ∙ e)
+script_given bytes (Err (errors.Fault line why)) e =
+    fault_alone (length bytes) (input bytes) (record { line = line; why = why }) (sym (input_alone bytes) ∙ e)
 script_given bytes (Err errors.NoMemory) e = tt
 
 -- what is read of an input that has a script alone is the input's script
-pub read_alone : (p : Part) (bytes : List ℕ) (r : Answer) → Gives parts_in r (input_of p bytes) → p ≡ part.Script → Gives (λ x. x.script) r (input bytes)
+pub read_alone : (p : Part) (bytes : List ℕ) (r : Answer) → Gives parts_in r (input_of p bytes) → p ≡ part.Script
+    → Gives (λ x. x.script) r (input bytes)
 read_alone p bytes r e is = script_given bytes r (subst (λ (q : Part). Gives parts_in r (input_of q bytes)) is e)
 
 script_spells : (bytes : List ℕ) (r : Answer) → Gives (λ x. x.script) r (input bytes) → IfOk r (λ x. Spells bytes x.script)
 script_spells bytes (Ok x) e = spelt_where_read bytes x.script e
 script_spells bytes (Err e) is = tt
 
-pub spells_alone : (p : Part) (bytes : List ℕ) (r : Answer) → Gives parts_in r (input_of p bytes) → p ≡ part.Script → IfOk r (λ x. Spells bytes x.script)
+pub spells_alone : (p : Part) (bytes : List ℕ) (r : Answer) → Gives parts_in r (input_of p bytes) → p ≡ part.Script
+    → IfOk r (λ x. Spells bytes x.script)
 spells_alone p bytes r e is = script_spells bytes r (read_alone p bytes r e is)

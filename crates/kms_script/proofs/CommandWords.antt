@@ -28,7 +28,7 @@ use Rattle.kms_model.specs.Script.Spelling.{assign_word, blob_word, command_word
 use Rattle.kms_model.specs.Script.WellFormed.{are_words16, has_widths, is_assign_in, is_command_in, is_integer, is_label_in, is_mode_name, is_pattern_of, is_property_in, is_value_in, is_word16, is_word32}
 use Rattle.kms_model.specs.Script.Words.{between, is_digit, is_hex, is_label, is_label_rest, is_letter, is_name_byte, until}
 use Rattle.kms_words.specs.Printed.{fields}
-use Rattle.kms_commands.proofs.Spaced.{line-fields}
+use Rattle.kms_words.proofs.Spaced.{line-fields}
 use Rattle.kms_script.proofs.Cutting.{each, is_inner, words_of_fields}
 use Rattle.kms_script.proofs.Decimals.{decimal_digits}
 use Rattle.kms_script.proofs.HexBack.{IsWritten, all_written, glyph}

@@ -1,15 +1,17 @@
 -- Words with a blank before each are cut into these words.
-use Rattle.std.proofs.Common.{◌≡◌, ℕ, ◌<◌, ◌≤◌, ◌^◌, Bool, true, false, List, [], ◌∷◌, ◌++◌, Some, None, refl, sym, ◌∙◌, arith}
+use Rattle.std.proofs.Common.{◌≡◌, ℕ, ◌<◌, ◌≤◌, ◌^◌, Bool, true, false, List, [], ◌∷◌, ◌++◌, Some, None, pos, refl, sym, ◌∙◌, codes, arith}
 use Rattle.std.specs.Prelude.{◌==◌, not}
 use Rattle.std.specs.Fmt.{decimal}
 use Rattle.std.specs.List.{list_all}
 use Rattle.std.proofs.lemmas.Bool.{and_parts, eqb-true}
 use Rattle.std.proofs.lemmas.Bool.Decides.{nat_tests}
-use Rattle.kms_model.specs.Script.Grammar.{field_words}
+use Rattle.kms_model.specs.declared.scripts.Value.TheVariants.{Num}
+use Rattle.kms_model.specs.Script.CommandLines.{Names, value_read}
+use Rattle.kms_model.specs.Script.Grammar.{field_words, int}
 use Rattle.kms_model.specs.Script.Words.{dec_at, field_at, from, is_digit, strip, until}
 use Rattle.kms_words.specs.Printed.{fields}
 use Rattle.kms_script.proofs.Decimals.{dec_read, decimal_digits}
-use Rattle.kms_commands.proofs.Fields.{first_word}
+use Rattle.kms_words.proofs.Fields.{first_word}
 
 -- a byte of a word
 abbrev pub is_inner : ℕ → Bool
@@ -86,3 +88,16 @@ no_front c cs [] none all = refl
 no_front c cs (d ∷ ds) none all =
     let p = and_parts (is_digit d) (list_all is_digit ds) all in
     rw (other_step (c == d) c d refl none p.0) refl
+
+-- a number is read as a value
+pub number_value : (names : Names) (n : ℕ) → n ≤ 18446744073709551615 → value_read names (decimal n) ≡ Some (Num (pos n), names)
+unfolding value_read int
+number_value names n le =
+    let digits = decimal_digits n (omega (arith, le)) in
+    rw (
+      no_front 64 [] (decimal n) refl digits,
+      no_front 43 [] (decimal n) refl digits,
+      no_front 99 (codes "rtc") (decimal n) refl digits,
+      no_front 45 [] (decimal n) refl digits,
+      dec_read 18446744073709551615 n (omega arith) le,
+    ) refl

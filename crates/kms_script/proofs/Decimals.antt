@@ -20,7 +20,8 @@ record IsPlain (word : List ℕ) : Type 0 where
   some : 0 < length word
   lead : get_or word 0 0 ≡ 48 → length word ≡ 1
 
-plain_first : (t : Bool) (d : ℕ) (ds : List ℕ) → (d == 48) ≡ t → cond t (length ds == 0) (list_all is_digit (d ∷ ds)) ≡ true → IsPlain (d ∷ ds)
+plain_first : (t : Bool) (d : ℕ) (ds : List ℕ) → (d == 48) ≡ t → cond t (length ds == 0) (list_all is_digit (d ∷ ds)) ≡ true
+    → IsPlain (d ∷ ds)
 plain_first true d ds is h =
     let first : d ≡ 48 = eqb-true d 48 is in
     let none : length ds ≡ 0 = eqb-true (length ds) 0 h in

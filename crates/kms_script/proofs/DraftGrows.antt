@@ -72,18 +72,22 @@ with_version d version = record d { head = 1; names = record d.names { profile =
 pub any_profile : (all : List (List ℕ)) (names : Names) (version : ℕ) → Begins (record names { profile = version }) all → Begins names all
 any_profile all names version b = record { more = b.more; whole = b.whole }
 
-first_grown : (all : List (List ℕ)) (d : Draft) (version : ℕ) (text : List ℕ) → d.head ≡ 0 → version_read text ≡ Some version → draft_text all d ++ (text ++ 10 ∷ []) ≡ draft_text all (with_version d version)
+first_grown : (all : List (List ℕ)) (d : Draft) (version : ℕ) (text : List ℕ) → d.head ≡ 0 → version_read text ≡ Some version
+    → draft_text all d ++ (text ++ 10 ∷ []) ≡ draft_text all (with_version d version)
 first_grown all d version text zeroth read = rw (zeroth) (sym (version_spelt text version read))
 
 -- `kms V`
-pub first_follows : (d : Draft) (version : ℕ) (text : List ℕ) → IsInOrder d → d.head ≡ 0 → version_read text ≡ Some version → Follows d (with_version d version) text
+pub first_follows : (d : Draft) (version : ℕ) (text : List ℕ) → IsInOrder d → d.head ≡ 0 → version_read text ≡ Some version
+    → Follows d (with_version d version) text
 first_follows d version text o zeroth read = record {
   ordered = record { crtcs = o.crtcs; planes = λ lt. o.planes (omega arith); conns = λ lt. o.conns (omega arith); late_client = o.late_client; first_client = o.first_client };
   spelt = λ all b. record { begins = any_profile all d.names version b; grown = first_grown all d version text zeroth read };
 }
 
 -- the text behind the second line
-second_text : (all : List (List ℕ)) (d : Draft) (n : ℕ) (text : List ℕ) → IsInOrder d → d.head ≡ 1 → line (codes "crtcs" ∷ decimal n ∷ []) ≡ text ++ 10 ∷ [] → draft_text all d ++ (text ++ 10 ∷ []) ≡ draft_text all (record d { head = 2; crtcs = n })
+second_text : (all : List (List ℕ)) (d : Draft) (n : ℕ) (text : List ℕ) → IsInOrder d → d.head ≡ 1
+    → line (codes "crtcs" ∷ decimal n ∷ []) ≡ text ++ 10 ∷ []
+    → draft_text all d ++ (text ++ 10 ∷ []) ≡ draft_text all (record d { head = 2; crtcs = n })
 second_text all d n text o first spelt =
     let few : d.head < 2 = omega arith in
     let conns : d.conns ≡ [] = o.conns few in
@@ -91,7 +95,8 @@ second_text all d n text o first spelt =
     rw (first, ← spelt, o.planes few, conns, none) (sym (append-nil (head_text d.names.profile n)))
 
 -- `crtcs N`
-pub second_follows : (d : Draft) (n : ℕ) (text : List ℕ) → IsInOrder d → d.head ≡ 1 → n ≤ 4 → line (codes "crtcs" ∷ decimal n ∷ []) ≡ text ++ 10 ∷ [] → Follows d (record d { head = 2; crtcs = n }) text
+pub second_follows : (d : Draft) (n : ℕ) (text : List ℕ) → IsInOrder d → d.head ≡ 1 → n ≤ 4
+    → line (codes "crtcs" ∷ decimal n ∷ []) ≡ text ++ 10 ∷ [] → Follows d (record d { head = 2; crtcs = n }) text
 second_follows d n text o first few spelt = record {
   ordered = record { crtcs = few; planes = λ lt. absurd (omega arith); conns = λ lt. absurd (omega arith); late_client = o.late_client; first_client = o.first_client };
   spelt = λ all b. record { begins = b; grown = second_text all d n text o first spelt };
@@ -100,7 +105,8 @@ second_follows d n text o first few spelt = record {
 -- The lines behind them
 
 -- a plane, before the first connector
-pub plane_follows : (d : Draft) (p : PlaneInfo) (text : List ℕ) → IsInOrder d → 2 ≤ d.head → is_nil d.conns ≡ true → line (spelt_plane p) ≡ text ++ 10 ∷ [] → Follows d (record d { planes = d.planes ++ p ∷ [] }) text
+pub plane_follows : (d : Draft) (p : PlaneInfo) (text : List ℕ) → IsInOrder d → 2 ≤ d.head → is_nil d.conns ≡ true
+    → line (spelt_plane p) ≡ text ++ 10 ∷ [] → Follows d (record d { planes = d.planes ++ p ∷ [] }) text
 plane_follows d p text o late none spelt = record {
   ordered = record { crtcs = o.crtcs; planes = λ lt. absurd (omega arith); conns = λ lt. absurd (omega arith); late_client = o.late_client; first_client = o.first_client };
   spelt = λ all b. record {
@@ -111,7 +117,8 @@ plane_follows d p text o late none spelt = record {
 }
 
 -- a connector, before the first client
-pub conn_follows : (d : Draft) (mask : ℕ) (text : List ℕ) → IsInOrder d → 2 ≤ d.head → d.has_client ≡ false → line (conn_words mask) ≡ text ++ 10 ∷ [] → Follows d (record d { conns = d.conns ++ mask ∷ [] }) text
+pub conn_follows : (d : Draft) (mask : ℕ) (text : List ℕ) → IsInOrder d → 2 ≤ d.head → d.has_client ≡ false
+    → line (conn_words mask) ≡ text ++ 10 ∷ [] → Follows d (record d { conns = d.conns ++ mask ∷ [] }) text
 conn_follows d mask text o late none spelt = record {
   ordered = record { crtcs = o.crtcs; planes = o.planes; conns = λ lt. absurd (omega arith); late_client = λ nil. none; first_client = o.first_client };
   spelt = λ all b. record {
@@ -126,7 +133,8 @@ abbrev pub with_client : Draft → Draft
 with_client d = record d { clients = clients_in d; has_client = true; commands = [] }
 
 -- `client`, behind the connectors
-pub client_follows : (d : Draft) (text : List ℕ) → IsInOrder d → 2 ≤ d.head → is_nil d.conns ≡ false → line (codes "client" ∷ []) ≡ text ++ 10 ∷ [] → Follows d (with_client d) text
+pub client_follows : (d : Draft) (text : List ℕ) → IsInOrder d → 2 ≤ d.head → is_nil d.conns ≡ false
+    → line (codes "client" ∷ []) ≡ text ++ 10 ∷ [] → Follows d (with_client d) text
 client_follows d text o late some spelt = record {
   ordered = record { crtcs = o.crtcs; planes = o.planes; conns = o.conns; late_client = λ nil. sym nil ∙ some; first_client = λ none. absurd cc };
   spelt = λ all b. record {
@@ -137,7 +145,8 @@ client_follows d text o late some spelt = record {
 }
 
 -- a command of the present client
-pub command_follows : (d : Draft) (c : Command) (after : Names) (text : List ℕ) → IsInOrder d → 2 ≤ d.head → d.has_client ≡ true → command_read d.names text ≡ Some (c, after) → Follows d (record d { names = after; commands = d.commands ++ c ∷ [] }) text
+pub command_follows : (d : Draft) (c : Command) (after : Names) (text : List ℕ) → IsInOrder d → 2 ≤ d.head → d.has_client ≡ true
+    → command_read d.names text ≡ Some (c, after) → Follows d (record d { names = after; commands = d.commands ++ c ∷ [] }) text
 command_follows d c after text o late has read = record {
   ordered = record { crtcs = o.crtcs; planes = o.planes; conns = o.conns; late_client = o.late_client; first_client = o.first_client };
   spelt = λ all b. record {

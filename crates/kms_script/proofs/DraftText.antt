@@ -48,7 +48,8 @@ draft_text all d = by_head d.names.profile d.head (parts all d)
 -- Parts with a line more behind them
 
 -- a line more of a kind
-line_more : {A : Type 0} (words_of : A → List (List ℕ)) (xs : List A) (x : A) → lines_text words_of (xs ++ x ∷ []) ≡ lines_text words_of xs ++ line (words_of x)
+line_more : {A : Type 0} (words_of : A → List (List ℕ)) (xs : List A) (x : A)
+    → lines_text words_of (xs ++ x ∷ []) ≡ lines_text words_of xs ++ line (words_of x)
 line_more words_of [] x = append-nil (line (words_of x))
 line_more words_of (y ∷ ys) x = ap (λ (bs : List ℕ). line (words_of y) ++ bs) (line_more words_of ys x) ∙ sym (append_assoc (line (words_of y)) (lines_text words_of ys) (line (words_of x)))
 
@@ -60,7 +61,8 @@ planes_end head planes more = simp (append-nil, append_assoc) refl
 pub plane_more : (all : List (List ℕ)) (head : List ℕ) (planes : List PlaneInfo) (p : PlaneInfo) (conns : List ℕ) (clients : List (List Command)) → conns ≡ [] → clients ≡ []
     → whole head (lines_text spelt_plane planes) (lines_text conn_words conns) (flat_map (client_text all) clients) ++ line (spelt_plane p)
     ≡ whole head (lines_text spelt_plane (planes ++ p ∷ [])) (lines_text conn_words conns) (flat_map (client_text all) clients)
-plane_more all head planes p conns clients no_conns none = rw (no_conns, none, line_more spelt_plane planes p) (planes_end head (lines_text spelt_plane planes) (line (spelt_plane p)))
+plane_more all head planes p conns clients no_conns none =
+    rw (no_conns, none, line_more spelt_plane planes p) (planes_end head (lines_text spelt_plane planes) (line (spelt_plane p)))
 
 -- bytes behind the connectors, where nothing follows
 conns_end : (head planes conns more : List ℕ) → whole head planes conns [] ++ more ≡ whole head planes (conns ++ more) []
@@ -69,10 +71,12 @@ conns_end head planes conns more = simp (append-nil, append_assoc) refl
 -- a connector more, where there are no clients
 pub conn_more : (all : List (List ℕ)) (head planes conns : List ℕ) (mask : ℕ) (clients : List (List Command)) → clients ≡ []
     → whole head planes (lines_text conn_words conns) (flat_map (client_text all) clients) ++ line (conn_words mask) ≡ whole head planes (lines_text conn_words (conns ++ mask ∷ [])) (flat_map (client_text all) clients)
-conn_more all head planes conns mask clients none = rw (none, line_more conn_words conns mask) (conns_end head planes (lines_text conn_words conns) (line (conn_words mask)))
+conn_more all head planes conns mask clients none =
+    rw (none, line_more conn_words conns mask) (conns_end head planes (lines_text conn_words conns) (line (conn_words mask)))
 
 -- bytes behind the clients
-clients_end : (head planes conns clients more : List ℕ) → whole head planes conns clients ++ more ≡ whole head planes conns (clients ++ more)
+clients_end : (head planes conns clients more : List ℕ)
+    → whole head planes conns clients ++ more ≡ whole head planes conns (clients ++ more)
 clients_end head planes conns clients more = simp append_assoc refl
 
 -- the bytes of an item more
@@ -104,7 +108,8 @@ late version (suc zero) later le = absurd (omega arith)
 late version (suc (suc n)) later le = refl
 
 -- a line behind the first two adds its words
-pub late_line : (all : List (List ℕ)) (d next : Draft) (words : List (List ℕ)) (text : List ℕ) → 2 ≤ d.head → next.head ≡ d.head → line words ≡ text ++ 10 ∷ [] → parts all d ++ line words ≡ parts all next
+pub late_line : (all : List (List ℕ)) (d next : Draft) (words : List (List ℕ)) (text : List ℕ) → 2 ≤ d.head → next.head ≡ d.head
+    → line words ≡ text ++ 10 ∷ [] → parts all d ++ line words ≡ parts all next
     → draft_text all d ++ (text ++ 10 ∷ []) ≡ draft_text all next
 late_line all d next words text le same spelt grown =
     ap (λ (bs : List ℕ). bs ++ (text ++ 10 ∷ [])) (late d.names.profile d.head (parts all d) le) ∙ ap (λ (bs : List ℕ). parts all d ++ bs) (sym spelt) ∙ grown
@@ -113,12 +118,14 @@ late_line all d next words text le same spelt grown =
 -- The whole script
 
 -- the lines of all clients are each client's lines
-texts_of : (all : List (List ℕ)) (clients : List (List Command)) → text_of (flat_map (client_lines all) clients) ≡ flat_map (client_text all) clients
+texts_of : (all : List (List ℕ)) (clients : List (List Command))
+    → text_of (flat_map (client_lines all) clients) ≡ flat_map (client_text all) clients
 texts_of all [] = refl
 texts_of all (c ∷ cs) = flat_map-append line (client_lines all c) (flat_map (client_lines all) cs) ∙ ap (λ (bs : List ℕ). client_text all c ++ bs) (texts_of all cs)
 
 -- lines in a row, by kinds
-in_parts : (k c : List (List ℕ)) (ps cs more : List (List (List ℕ))) → text_of (k ∷ (c ∷ (ps ++ cs)) ++ more) ≡ whole (line k ++ line c) (text_of ps) (text_of cs) (text_of more)
+in_parts : (k c : List (List ℕ)) (ps cs more : List (List (List ℕ)))
+    → text_of (k ∷ (c ∷ (ps ++ cs)) ++ more) ≡ whole (line k ++ line c) (text_of ps) (text_of cs) (text_of more)
 in_parts k c ps cs more =
     rw (append_assoc ps cs more, flat_map-append line ps (cs ++ more), flat_map-append line cs more) (sym (append_assoc (line k) (line c) (text_of ps ++ (text_of cs ++ text_of more))))
 

@@ -30,16 +30,20 @@ use Rattle.kms_script.proofs.SpeltWords.{nothing_read}
 -- Assignments
 
 -- a label that was said is one of the names
-said_fit : (all : List (List ℕ)) (names : Names) (label : List ℕ) → is_label label ≡ true → Begins (saying label names) all → is_label_in all (place label names) ≡ true
+said_fit : (all : List (List ℕ)) (names : Names) (label : List ℕ) → is_label label ≡ true → Begins (saying label names) all
+    → is_label_in all (place label names) ≡ true
 said_fit all names label is b = rw (said_word all label names b) is
 
-named_fit : (all : List (List ℕ)) (names : Names) (label : List ℕ) (r : Value × Names) → is_label label ≡ true → (value.Named (place label names), saying label names) ≡ r → Begins r.1 all → is_value_in all r.0 ≡ true
+named_fit : (all : List (List ℕ)) (names : Names) (label : List ℕ) (r : Value × Names) → is_label label ≡ true
+    → (value.Named (place label names), saying label names) ≡ r → Begins r.1 all → is_value_in all r.0 ≡ true
 named_fit all names label r is same = rw (← same) (λ b. said_fit all names label is b)
 
-new_fit : (all : List (List ℕ)) (names : Names) (label : List ℕ) (r : Value × Names) → is_label label ≡ true → (value.New (place label names), making label names) ≡ r → Begins r.1 all → is_value_in all r.0 ≡ true
+new_fit : (all : List (List ℕ)) (names : Names) (label : List ℕ) (r : Value × Names) → is_label label ≡ true
+    → (value.New (place label names), making label names) ≡ r → Begins r.1 all → is_value_in all r.0 ≡ true
 new_fit all names label r is same = rw (← same) (λ b. said_fit all names label is (making_says all label names b))
 
-value_fit : (all : List (List ℕ)) (names : Names) (word : List ℕ) (r : Value × Names) → value_read names word ≡ Some r → Begins r.1 all → is_value_in all r.0 ≡ true
+value_fit : (all : List (List ℕ)) (names : Names) (word : List ℕ) (r : Value × Names) → value_read names word ≡ Some r → Begins r.1 all
+    → is_value_in all r.0 ≡ true
 unfolding value_read
 value_fit all names word r e = elim (or_some _ (strip (codes "@") word) _ r e) [
   | inl at ↦ (let l = if_some (is_label at.value) _ r at.then in named_fit all names at.value r l.0 (some_same _ r l.1))
@@ -67,14 +71,16 @@ found_too q r (y ∷ ys) x e passes = elim (either_ok (q y) (Some y) (find q ys)
   | inr there ↦ later_found (r y) y (find r ys) (found_too q r ys x there.1 passes)
 ]
 
-row_fit : (profile : ℕ) (kind : Kind) (word : List ℕ) (p : Property) → property_named profile kind word ≡ Some p → is_named profile kind word p ≡ true → is_some (property_in profile p.id) ≡ true
+row_fit : (profile : ℕ) (kind : Kind) (word : List ℕ) (p : Property) → property_named profile kind word ≡ Some p
+    → is_named profile kind word p ≡ true → is_some (property_in profile p.id) ≡ true
 row_fit profile kind word p found named =
     let both : (bytes_eq p.name word && is_in_profile profile p) ≡ true = (and_parts (list_any (same_kind kind) p.kinds) (bytes_eq p.name word && is_in_profile profile p) named).1 in
     let within : is_in_profile profile p ≡ true = (and_parts (bytes_eq p.name word) (is_in_profile profile p) both).1 in
     found_too (is_named profile kind word) (λ r. has_id p.id r && is_in_profile profile r) properties p found (and_from (has_id p.id p) (is_in_profile profile p) (eq-eqb p.id p.id refl) within)
 
 -- the id of a property's name is in the table
-id_fit : (profile : ℕ) (kind : Kind) (word : List ℕ) (id : ℕ) → property_id profile kind word ≡ Some id → is_some (property_in profile id) ≡ true
+id_fit : (profile : ℕ) (kind : Kind) (word : List ℕ) (id : ℕ) → property_id profile kind word ≡ Some id
+    → is_some (property_in profile id) ≡ true
 id_fit profile kind word id e = step (property_named profile kind word) refl (find-passes (is_named profile kind word) properties) e
   where
     step : (o : Option Property) → property_named profile kind word ≡ o → IfSome o (λ p. is_named profile kind word p ≡ true) → option_map (λ (p : Property). p.id) o ≡ Some id → is_some (property_in profile id) ≡ true
@@ -90,11 +96,13 @@ known_fit profile word id e = elim (or_else-some (property_id profile Plane word
   ]
 ]
 
-property_step : (all : List (List ℕ)) (names : Names) (word : List ℕ) (o : Option ℕ) → known_property names.profile word ≡ o → is_property_word word ≡ true → Begins (prop_of names word o).1 all → is_property_in names.profile all (prop_of names word o).0 ≡ true
+property_step : (all : List (List ℕ)) (names : Names) (word : List ℕ) (o : Option ℕ) → known_property names.profile word ≡ o
+    → is_property_word word ≡ true → Begins (prop_of names word o).1 all → is_property_in names.profile all (prop_of names word o).0 ≡ true
 property_step all names word (Some id) e is b = known_fit names.profile word id e
 property_step all names word None e is b = rw (said_word all word names b, is, e) refl
 
-property_fit : (all : List (List ℕ)) (names : Names) (word : List ℕ) → is_property_word word ≡ true → Begins (property_read names word).1 all → is_property_in names.profile all (property_read names word).0 ≡ true
+property_fit : (all : List (List ℕ)) (names : Names) (word : List ℕ) → is_property_word word ≡ true
+    → Begins (property_read names word).1 all → is_property_in names.profile all (property_read names word).0 ≡ true
 unfolding property_read
 property_fit all names word is b = property_step all names word (known_property names.profile word) refl is b
 
@@ -112,7 +120,8 @@ words_fit word w e =
     let read = if_some (is_property_word (until 61 tail)) _ w more in
     rw (← some_same _ w read.1) (record { few = object_fit o (until 46 word) first; named = read.0 }))))
 
-assign_fit : (all : List (List ℕ)) (names : Names) (word : List ℕ) (r : Assign × Names) → assign_read names word ≡ Some r → Begins r.1 all → is_assign_in names.profile all r.0 ≡ true
+assign_fit : (all : List (List ℕ)) (names : Names) (word : List ℕ) (r : Assign × Names) → assign_read names word ≡ Some r → Begins r.1 all
+    → is_assign_in names.profile all r.0 ≡ true
 unfolding assign_read
 assign_fit all names word r e =
     let w = bind_some (assign_words word) _ r e in
@@ -123,7 +132,8 @@ assign_fit all names word r e =
     and_from (nat_le w.value.1 255) (is_property_in names.profile all ((property_read names w.value.2).0) && is_value_in all v.value.0) fit.few
     (and_from (is_property_in names.profile all ((property_read names w.value.2).0)) (is_value_in all v.value.0) (property_fit all names w.value.2 fit.named val.begins) (value_fit all ((property_read names w.value.2).1) w.value.3 v.value v.given b)))
 
-assigns_fit : (all : List (List ℕ)) (ws : List (List ℕ)) (names : Names) (r : List Assign × Names) → assigns_read names ws ≡ Some r → Begins r.1 all → list_all (is_assign_in names.profile all) r.0 ≡ true
+assigns_fit : (all : List (List ℕ)) (ws : List (List ℕ)) (names : Names) (r : List Assign × Names) → assigns_read names ws ≡ Some r
+    → Begins r.1 all → list_all (is_assign_in names.profile all) r.0 ≡ true
 assigns_fit all [] names r e = rw (← some_same _ r e) (λ b. refl)
 assigns_fit all (w ∷ ws) names r e =
     let a = bind_some (assign_read names w) _ r e in
@@ -139,14 +149,16 @@ assigns_fit all (w ∷ ws) names r e =
 abbrev Fits : List (List ℕ) → ℕ → Command × Names → Type 0
 Fits all profile r = Begins r.1 all → is_command_in profile all r.0 ≡ true
 
-atomic_fit : (all : List (List ℕ)) (names : Names) (bytes : List ℕ) (r : Command × Names) → atomic_read names bytes ≡ Some r → Fits all names.profile r
+atomic_fit : (all : List (List ℕ)) (names : Names) (bytes : List ℕ) (r : Command × Names) → atomic_read names bytes ≡ Some r
+    → Fits all names.profile r
 atomic_fit all names bytes r e =
     let p = request_parts names bytes r e in
     rw (← p.makes) (λ b.
     and_from (is_word32 p.flags.0) (nat_lt p.user.0 (2 ^ 64) && list_all (is_assign_in names.profile all) p.sets.0) (hex_at_fit bytes p.flags p.first)
     (and_from (nat_lt p.user.0 (2 ^ 64)) (list_all (is_assign_in names.profile all) p.sets.0) (long_fit p.user.0 (dec_at_fit 18446744073709551615 p.flags.1 p.user p.second)) (assigns_fit all p.words names p.sets p.given b)))
 
-buffer_fit : (all : List (List ℕ)) (names : Names) (bytes : List ℕ) (r : Command × Names) → buffer_read names bytes ≡ Some r → Fits all names.profile r
+buffer_fit : (all : List (List ℕ)) (names : Names) (bytes : List ℕ) (r : Command × Names) → buffer_read names bytes ≡ Some r
+    → Fits all names.profile r
 buffer_fit all names bytes r e =
     let p = buffer_parts names bytes r e in
     rw (← p.makes) (λ b.
@@ -154,7 +166,8 @@ buffer_fit all names bytes r e =
     (and_from (is_word32 p.w.0) (is_word32 p.h.0 && is_pattern_of p.format.0 p.w.0 p.h.0 p.pattern) (word_fit p.w.0 (dec_at_fit 4294967295 p.label.1 p.w p.wide))
     (and_from (is_word32 p.h.0) (is_pattern_of p.format.0 p.w.0 p.h.0 p.pattern) (word_fit p.h.0 (dec_at_fit 4294967295 p.w.1 p.h p.high)) (pattern_fit p.w.0 p.h.0 p.format.0 p.format.1 p.pattern p.shown))))
 
-addfb_fit : (all : List (List ℕ)) (names : Names) (bytes : List ℕ) (r : Command × Names) → addfb_read names bytes ≡ Some r → Fits all names.profile r
+addfb_fit : (all : List (List ℕ)) (names : Names) (bytes : List ℕ) (r : Command × Names) → addfb_read names bytes ≡ Some r
+    → Fits all names.profile r
 unfolding addfb_read
 addfb_fit all names bytes r e =
     from_bind (label_at bytes) _ r e (λ label first more.
@@ -164,13 +177,15 @@ addfb_fit all names bytes r e =
     (said_fit all names label.0 (label_fit bytes label first) (making_says all label.0 names (before_saying all buffer (making label.0 names) b)))
     (said_fit all (making label.0 names) buffer (alone_fit label.1 buffer last) b))))
 
-mode_read_fit : (all : List (List ℕ)) (names : Names) (bytes : List ℕ) (r : Command × Names) → mode_read names bytes ≡ Some r → Fits all names.profile r
+mode_read_fit : (all : List (List ℕ)) (names : Names) (bytes : List ℕ) (r : Command × Names) → mode_read names bytes ≡ Some r
+    → Fits all names.profile r
 mode_read_fit all names bytes r e =
     let p = mode_line_parts names bytes r e in
     rw (← p.makes) (λ b.
     and_from (is_label_in all (place p.label.0 names)) (has_widths p.mode.0 && is_mode_name p.mode.0.name) (said_fit all names p.label.0 (label_fit bytes p.label p.first) (making_says all p.label.0 names b)) (mode_fit p.label.1 p.mode p.shown))
 
-blob_read_fit : (all : List (List ℕ)) (names : Names) (bytes : List ℕ) (r : Command × Names) → blob_read names bytes ≡ Some r → Fits all names.profile r
+blob_read_fit : (all : List (List ℕ)) (names : Names) (bytes : List ℕ) (r : Command × Names) → blob_read names bytes ≡ Some r
+    → Fits all names.profile r
 blob_read_fit all names bytes r e =
     let p = blob_line_parts names bytes r e in
     rw (← p.makes) (λ b.
@@ -180,29 +195,34 @@ blob_read_fit all names bytes r e =
 abbrev OfLabel : List (List ℕ) → (ℕ → Command) → Type 0
 OfLabel all f = (profile n : ℕ) → is_label_in all n ≡ true → is_command_in profile all (f n) ≡ true
 
-naming_fit : (all : List (List ℕ)) (f : ℕ → Command) → OfLabel all f → (names : Names) (bytes : List ℕ) (r : Command × Names) → naming_read f names bytes ≡ Some r → Fits all names.profile r
+naming_fit : (all : List (List ℕ)) (f : ℕ → Command) → OfLabel all f → (names : Names) (bytes : List ℕ) (r : Command × Names)
+    → naming_read f names bytes ≡ Some r → Fits all names.profile r
 unfolding naming_read
 naming_fit all f of names bytes r e =
     from_bind (label_alone bytes) _ r e (λ label alone more.
     rw (← some_same _ r more) (λ b. of names.profile (place label names) (said_fit all names label (alone_fit bytes label alone) b)))
 
-making_fit : (all : List (List ℕ)) (f : ℕ → Command) → OfLabel all f → (names : Names) (bytes : List ℕ) (r : Command × Names) → making_read f names bytes ≡ Some r → Fits all names.profile r
+making_fit : (all : List (List ℕ)) (f : ℕ → Command) → OfLabel all f → (names : Names) (bytes : List ℕ) (r : Command × Names)
+    → making_read f names bytes ≡ Some r → Fits all names.profile r
 unfolding making_read
 making_fit all f of names bytes r e =
     from_bind (label_alone bytes) _ r e (λ label alone more.
     rw (← some_same _ r more) (λ b. of names.profile (place label names) (said_fit all names label (alone_fit bytes label alone) (making_says all label names b))))
 
-wait_fit : (all : List (List ℕ)) (names : Names) (bytes : List ℕ) (r : Command × Names) → option_map (λ u. (command.Wait, names)) (end_at bytes) ≡ Some r → Fits all names.profile r
+wait_fit : (all : List (List ℕ)) (names : Names) (bytes : List ℕ) (r : Command × Names)
+    → option_map (λ u. (command.Wait, names)) (end_at bytes) ≡ Some r → Fits all names.profile r
 wait_fit all names bytes r e = let m = map_some _ (end_at bytes) r e in rw (← m.makes) (λ b. refl)
 
 -- by a first word that is one of several
-by_word : (all : List (List ℕ)) (profile : ℕ) (t : Bool) (r : Command × Names) (one other : Option (Command × Names)) → (one ≡ Some r → Fits all profile r) → (other ≡ Some r → Fits all profile r) → cond t one other ≡ Some r → Fits all profile r
+by_word : (all : List (List ℕ)) (profile : ℕ) (t : Bool) (r : Command × Names) (one other : Option (Command × Names))
+    → (one ≡ Some r → Fits all profile r) → (other ≡ Some r → Fits all profile r) → cond t one other ≡ Some r → Fits all profile r
 by_word all profile t r one other here there e = elim (choice_some t one other r e) [
   | inl is ↦ here is.1
   | inr more ↦ there more
 ]
 
-thing_fit : (all : List (List ℕ)) (names : Names) (keyword bytes : List ℕ) (r : Command × Names) → thing_read names keyword bytes ≡ Some r → Fits all names.profile r
+thing_fit : (all : List (List ℕ)) (names : Names) (keyword bytes : List ℕ) (r : Command × Names) → thing_read names keyword bytes ≡ Some r
+    → Fits all names.profile r
 unfolding thing_read
 thing_fit all names keyword bytes r e =
     by_word all names.profile (bytes_eq keyword (codes "buffer")) r _ _ (buffer_fit all names bytes r)
@@ -210,7 +230,8 @@ thing_fit all names keyword bytes r e =
     (by_word all names.profile (bytes_eq keyword (codes "mode")) r _ _ (mode_read_fit all names bytes r)
     (by_word all names.profile (bytes_eq keyword (codes "blob")) r _ None (blob_read_fit all names bytes r) (nothing_read r)))) e
 
-label_read_fit : (all : List (List ℕ)) (names : Names) (keyword bytes : List ℕ) (r : Command × Names) → label_read names keyword bytes ≡ Some r → Fits all names.profile r
+label_read_fit : (all : List (List ℕ)) (names : Names) (keyword bytes : List ℕ) (r : Command × Names)
+    → label_read names keyword bytes ≡ Some r → Fits all names.profile r
 unfolding label_read
 label_read_fit all names keyword bytes r e =
     by_word all names.profile (bytes_eq keyword (codes "destroy")) r _ _ (naming_fit all command.Destroy (λ profile n is. is) names bytes r)
@@ -219,7 +240,8 @@ label_read_fit all names keyword bytes r e =
     (by_word all names.profile (bytes_eq keyword (codes "signal")) r _ _ (naming_fit all command.Signal (λ profile n is. is) names bytes r)
     (thing_fit all names keyword bytes r)))) e
 
-pub command_fit : (all : List (List ℕ)) (names : Names) (text : List ℕ) (r : Command × Names) → command_read names text ≡ Some r → Begins r.1 all → is_command_in names.profile all r.0 ≡ true
+pub command_fit : (all : List (List ℕ)) (names : Names) (text : List ℕ) (r : Command × Names) → command_read names text ≡ Some r
+    → Begins r.1 all → is_command_in names.profile all r.0 ≡ true
 unfolding command_read
 command_fit all names text r e =
     by_word all names.profile (bytes_eq (until 32 text) (codes "atomic")) r _ _ (atomic_fit all names (from 32 text) r)

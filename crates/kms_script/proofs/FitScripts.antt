@@ -39,7 +39,8 @@ some_bit bit mask = step (2 ^ bit + mask) (omega (arith, pow_pos bit))
     step : (n : ℕ) → 1 ≤ n → IsSome n
     step n le = grind (arith, nat_tests)
 
-rising_some : (f : List ℕ → Option ℕ) (low : ℕ) (w : List ℕ) (ws : List (List ℕ)) (mask : ℕ) → rising f low (w ∷ ws) ≡ Some mask → IsSome mask
+rising_some : (f : List ℕ → Option ℕ) (low : ℕ) (w : List ℕ) (ws : List (List ℕ)) (mask : ℕ) → rising f low (w ∷ ws) ≡ Some mask
+    → IsSome mask
 rising_some f low w ws mask e =
     from_bind (f w) _ mask e (λ bit given more.
     from_bind (if_rising low bit ws) _ mask more (λ rest later more. rw (← some_same _ mask more) (some_bit bit rest)))
@@ -115,24 +116,24 @@ record Leads (all : List (List ℕ)) (d next : Draft) : Type 0 where
   begins : Begins d.names all
   fits : FitsAll all d → FitsAll all next
 
-same_begins : (all : List (List ℕ)) (d next : Draft) → d.names ≡ next.names → Begins next.names all → Begins d.names all
-same_begins all d next same b = subst (λ n. Begins n all) (sym same) b
-
-first_leads : (all : List (List ℕ)) (d next : Draft) (text : List ℕ) → d.head ≡ 0 → first_line d text ≡ Ok next → Begins next.names all → Leads all d next
+first_leads : (all : List (List ℕ)) (d next : Draft) (text : List ℕ) → d.head ≡ 0 → first_line d text ≡ Ok next → Begins next.names all
+    → Leads all d next
 unfolding first_line
 first_leads all d next text zeroth e =
     let version = form_ok (version_read text) _ next e in
     subst (λ n. Begins n.names all → Leads all d n) (ok_same (with_version d version.value) next version.then)
     (λ b. record { begins = any_profile all d.names version.value b; fits = λ f. record { planes = f.planes; conns = f.conns; clients = none_fit (is_command_in version.value all) (clients_in d) (f.early zeroth); early = λ none. absurd (omega arith) } })
 
-crtcs_leads : (all : List (List ℕ)) (d next : Draft) (text : List ℕ) → crtcs_line d text ≡ Ok next → Begins next.names all → Leads all d next
+crtcs_leads : (all : List (List ℕ)) (d next : Draft) (text : List ℕ) → crtcs_line d text ≡ Ok next → Begins next.names all
+    → Leads all d next
 unfolding crtcs_line
 crtcs_leads all d next text e =
     let key = if_ok (bytes_eq (until 32 text) (codes "crtcs")) Form _ next e in
     let n = form_ok (crtcs_at (from 32 text)) _ next key.1 in
     subst (λ m. Begins m.names all → Leads all d m) (ok_same (record d { head = 2; crtcs = n.value }) next n.then) (λ b. record { begins = b; fits = λ f. record { planes = f.planes; conns = f.conns; clients = f.clients; early = λ none. absurd (omega arith) } })
 
-plane_leads : (all : List (List ℕ)) (d next : Draft) (fields : List ℕ) → plane_line d fields ≡ Ok next → Begins next.names all → Leads all d next
+plane_leads : (all : List (List ℕ)) (d next : Draft) (fields : List ℕ) → plane_line d fields ≡ Ok next → Begins next.names all
+    → Leads all d next
 unfolding plane_line
 plane_leads all d next fields e =
     let p = form_ok (plane_fields d.crtcs fields) _ next e in
@@ -141,7 +142,8 @@ plane_leads all d next fields e =
     subst (λ m. Begins m.names all → Leads all d m) (ok_same (record d { planes = d.planes ++ p.value ∷ [] }) next limit.1)
     (λ b. record { begins = b; fits = λ f. record { planes = all_append has_choice d.planes (p.value ∷ []) f.planes (all_one has_choice p.value (plane_choice d.crtcs fields p.value p.given)); conns = f.conns; clients = f.clients; early = f.early } })
 
-conn_leads : (all : List (List ℕ)) (d next : Draft) (fields : List ℕ) → conn_line d fields ≡ Ok next → Begins next.names all → Leads all d next
+conn_leads : (all : List (List ℕ)) (d next : Draft) (fields : List ℕ) → conn_line d fields ≡ Ok next → Begins next.names all
+    → Leads all d next
 unfolding conn_line
 conn_leads all d next fields e =
     let mask = form_ok (conn_at d.crtcs fields) _ next e in
@@ -150,7 +152,8 @@ conn_leads all d next fields e =
     subst (λ m. Begins m.names all → Leads all d m) (ok_same (record d { conns = d.conns ++ mask.value ∷ [] }) next limit.1)
     (λ b. record { begins = b; fits = λ f. record { planes = f.planes; conns = all_append (λ mask. not (mask == 0)) d.conns (mask.value ∷ []) f.conns (all_one (λ mask. not (mask == 0)) mask.value (conn_choice d.crtcs fields mask.value mask.given)); clients = f.clients; early = f.early } })
 
-client_leads : (all : List (List ℕ)) (d next : Draft) (fields : List ℕ) → 2 ≤ d.head → client_line d fields ≡ Ok next → Begins next.names all → Leads all d next
+client_leads : (all : List (List ℕ)) (d next : Draft) (fields : List ℕ) → 2 ≤ d.head → client_line d fields ≡ Ok next
+    → Begins next.names all → Leads all d next
 unfolding client_line
 client_leads all d next fields late e =
     let done = form_ok (end_at fields) _ next e in
@@ -160,7 +163,9 @@ client_leads all d next fields late e =
     (λ b. record { begins = b; fits = λ f. record { planes = f.planes; conns = f.conns; clients = all_append (list_all (is_command_in d.names.profile all)) (clients_in d) ([] ∷ []) f.clients refl; early = λ none. absurd (omega arith) } })
 
 -- a command more of the present client
-one_more : (p : Command → Bool) (clients : List (List Command)) (has : Bool) (commands : List Command) (c : Command) → has ≡ true → p c ≡ true → list_all (list_all p) (clients ++ clients_of has commands) ≡ true → list_all (list_all p) (clients ++ clients_of has (commands ++ c ∷ [])) ≡ true
+one_more : (p : Command → Bool) (clients : List (List Command)) (has : Bool) (commands : List Command) (c : Command) → has ≡ true
+    → p c ≡ true → list_all (list_all p) (clients ++ clients_of has commands) ≡ true
+    → list_all (list_all p) (clients ++ clients_of has (commands ++ c ∷ [])) ≡ true
 one_more p clients true commands c has is e =
     let parts = all_front (list_all p) clients (commands ∷ []) e in
     let present : list_all p commands ≡ true = first (list_all p commands) parts.1 in
@@ -171,7 +176,8 @@ one_more p clients true commands c has is e =
     first false e = absurd cc
 one_more p clients false commands c has is e = absurd cc
 
-command_leads : (all : List (List ℕ)) (d next : Draft) (text : List ℕ) → 2 ≤ d.head → command_line d text ≡ Ok next → Begins next.names all → Leads all d next
+command_leads : (all : List (List ℕ)) (d next : Draft) (text : List ℕ) → 2 ≤ d.head → command_line d text ≡ Ok next → Begins next.names all
+    → Leads all d next
 unfolding command_line
 command_leads all d next text late e =
     let c = form_ok (command_read d.names text) _ next e in
@@ -190,7 +196,8 @@ command_leads all d next text late e =
       };
     })
 
-later_leads : (all : List (List ℕ)) (d next : Draft) (text : List ℕ) → 2 ≤ d.head → later_line d text ≡ Ok next → Begins next.names all → Leads all d next
+later_leads : (all : List (List ℕ)) (d next : Draft) (text : List ℕ) → 2 ≤ d.head → later_line d text ≡ Ok next → Begins next.names all
+    → Leads all d next
 unfolding later_line
 later_leads all d next text late e =
     elim (either_ok (bytes_eq (until 32 text) (codes "plane")) _ _ (accepted next) e) [
@@ -204,7 +211,8 @@ later_leads all d next text late e =
       ]
     ]
 
-line_leads : (all : List (List ℕ)) (d next : Draft) (text : List ℕ) → script_line d text ≡ Ok next → Begins next.names all → Leads all d next
+line_leads : (all : List (List ℕ)) (d next : Draft) (text : List ℕ) → script_line d text ≡ Ok next → Begins next.names all
+    → Leads all d next
 unfolding script_line
 line_leads all d next text e =
     elim (either_ok (d.head == 0) _ _ (accepted next) e) [
@@ -215,7 +223,8 @@ line_leads all d next text e =
       ]
     ]
 
-rows_lead : (all : List (List ℕ)) (d last : Draft) (rows : List Row) → spelt_lines d rows ≡ Some last → Begins last.names all → Leads all d last
+rows_lead : (all : List (List ℕ)) (d last : Draft) (rows : List Row) → spelt_lines d rows ≡ Some last → Begins last.names all
+    → Leads all d last
 rows_lead all d last [] e b = let end = ended_draft (is_nil d.conns) d last e in subst (λ x. Begins x.names all → Leads all d x) end.1 (λ b. record { begins = b; fits = λ f. f }) b
 rows_lead all d last (row ∷ rows) e b =
     let next = bind_some (spelt_line d row) _ last e in

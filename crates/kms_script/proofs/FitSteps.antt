@@ -144,7 +144,8 @@ module _ (s : Script) (formed : IsWellFormed s) (n : ℕ) (m : Machine) (C : Cou
   step_fits Stall h = tt
 
 -- each step of a run
-fit_along : (s : Script) (formed : IsWellFormed s) (h : List Step) (n : ℕ) (m : Machine) → Counted s n m → are_legal s m h ≡ true → AllByRecursion IsFitStep h
+fit_along : (s : Script) (formed : IsWellFormed s) (h : List Step) (n : ℕ) (m : Machine) → Counted s n m → are_legal s m h ≡ true
+    → AllByRecursion IsFitStep h
 unfolding are_legal
 fit_along s formed [] n m C is = tt
 fit_along s formed (step ∷ h) n m C is =

@@ -109,7 +109,8 @@ pixel_at_fit format bytes r e =
     from_bind (field_at bytes) _ r e (λ f a more.
     from_bind (pixel_number format f.0) _ r more (λ n given more. rw (← some_same _ r more) (pixel_fit format n f.0 given)))
 
-pixels_fit : (format : Format) (n : ℕ) (bytes ps : List ℕ) → pixels_at format n bytes ≡ Some ps → (length ps ≡ n) × (list_all (is_pixel_of format) ps ≡ true)
+pixels_fit : (format : Format) (n : ℕ) (bytes ps : List ℕ) → pixels_at format n bytes ≡ Some ps
+    → (length ps ≡ n) × (list_all (is_pixel_of format) ps ≡ true)
 pixels_fit format zero bytes ps e = let m = map_some _ (end_at bytes) ps e in rw (← m.makes) (refl, refl)
 pixels_fit format (suc n) bytes ps e =
     from_bind (pixel_at format bytes) _ ps e (λ p first more.
@@ -123,13 +124,15 @@ equal_test n m same = grind (arith, nat_tests)
 abbrev Fits : Format → ℕ → ℕ → Pattern → Type 0
 Fits format width height p = is_pattern_of format width height p ≡ true
 
-solid_fit : (width height : ℕ) (format : Format) (bytes : List ℕ) (p : Pattern) → solid_at format bytes ≡ Some p → Fits format width height p
+solid_fit : (width height : ℕ) (format : Format) (bytes : List ℕ) (p : Pattern) → solid_at format bytes ≡ Some p
+    → Fits format width height p
 unfolding solid_at
 solid_fit width height format bytes p e =
     from_bind (pixel_at format bytes) _ p e (λ x first more.
     from_bind (end_at x.1) _ p more (λ u end more. rw (← some_same _ p more) (pixel_at_fit format bytes x first)))
 
-checker_fit : (width height : ℕ) (format : Format) (bytes : List ℕ) (p : Pattern) → checker_at format bytes ≡ Some p → Fits format width height p
+checker_fit : (width height : ℕ) (format : Format) (bytes : List ℕ) (p : Pattern) → checker_at format bytes ≡ Some p
+    → Fits format width height p
 checker_fit width height format bytes p e =
     let c = checker_parts format bytes p e in
     rw (← c.makes)
@@ -142,7 +145,8 @@ checker_fit width height format bytes p e =
 ramp_fit : (width height : ℕ) (format : Format) (bytes : List ℕ) (p : Pattern) → ramp_at bytes ≡ Some p → Fits format width height p
 ramp_fit width height format bytes p e = let m = map_some _ (end_at bytes) p e in rw (← m.makes) refl
 
-each_fit : (width height : ℕ) (format : Format) (bytes : List ℕ) (p : Pattern) → each_pixel_at (width * height) format bytes ≡ Some p → Fits format width height p
+each_fit : (width height : ℕ) (format : Format) (bytes : List ℕ) (p : Pattern) → each_pixel_at (width * height) format bytes ≡ Some p
+    → Fits format width height p
 unfolding each_pixel_at
 each_fit width height format bytes p e =
     let read = if_some (between 1 256 (width * height)) _ p e in
@@ -152,7 +156,8 @@ each_fit width height format bytes p e =
     (and_from (between 1 256 (width * height)) ((length m.value == width * height) && list_all (is_pixel_of format) m.value) read.0
     (and_from (length m.value == width * height) (list_all (is_pixel_of format) m.value) (equal_test (length m.value) (width * height) all.0) all.1))
 
-pub pattern_fit : (width height : ℕ) (format : Format) (bytes : List ℕ) (p : Pattern) → pattern_at width height format bytes ≡ Some p → is_pattern_of format width height p ≡ true
+pub pattern_fit : (width height : ℕ) (format : Format) (bytes : List ℕ) (p : Pattern) → pattern_at width height format bytes ≡ Some p
+    → is_pattern_of format width height p ≡ true
 unfolding pattern_at
 pattern_fit width height format bytes p e = from_bind (field_at bytes) _ p e (λ f given more.
     elim (choice_some (bytes_eq f.0 (codes "solid")) _ _ p more) [
@@ -212,7 +217,8 @@ pair_fit a b x e =
     let same : x ≡ hex_value a * 16 + hex_value b = sym (some_same (hex_value a * 16 + hex_value b) x read.1) in
     lt_test x 256 (omega (arith, same, small_digit a parts.0, small_digit b parts.1))
 
-bytes_fit : (bytes word : List ℕ) → hex_bytes word ≡ Some bytes → (length word ≡ 2 * length bytes) × (list_all (λ b. nat_lt b 256) bytes ≡ true)
+bytes_fit : (bytes word : List ℕ) → hex_bytes word ≡ Some bytes
+    → (length word ≡ 2 * length bytes) × (list_all (λ b. nat_lt b 256) bytes ≡ true)
 unfolding hex_bytes
 bytes_fit bytes [] e = rw (← some_same [] bytes e) (refl, refl)
 bytes_fit bytes (a ∷ []) e = absurd cc
@@ -225,7 +231,8 @@ bytes_fit bytes (a ∷ b ∷ more) e =
     twice : (n m : ℕ) → n ≡ 2 * m → suc (suc n) ≡ 2 * suc m
     twice n m e = omega (arith, e)
 
-pub blob_fit : (word bytes : List ℕ) → blob_bytes word ≡ Some bytes → (between 1 2048 (length bytes) && list_all (λ b. nat_lt b 256) bytes) ≡ true
+pub blob_fit : (word bytes : List ℕ) → blob_bytes word ≡ Some bytes
+    → (between 1 2048 (length bytes) && list_all (λ b. nat_lt b 256) bytes) ≡ true
 blob_fit word bytes e =
     let read = if_some (between 2 4096 (length word)) (hex_bytes word) bytes e in
     let all = bytes_fit bytes word read.1 in
@@ -274,7 +281,8 @@ int_fit z word e = elim (or_some negative (strip (codes "-") word) (option_map p
   | inr d ↦ (let m = map_some pos (dec 18446744073709551615 word) z d in rw (← m.makes) (le_test m.value 18446744073709551615 (dec_at_most 18446744073709551615 m.value word m.given)))
 ]
 
-kind_or : (kind : Kind) (o : Kind × ℕ) (rest other : Option (List ℕ)) (more : Option (Kind × ℕ)) → (more ≡ Some o → nat_le o.1 255 ≡ true) → option_map_or (indexed kind) rest more ≡ Some o → nat_le o.1 255 ≡ true
+kind_or : (kind : Kind) (o : Kind × ℕ) (rest other : Option (List ℕ)) (more : Option (Kind × ℕ)) → (more ≡ Some o → nat_le o.1 255 ≡ true)
+    → option_map_or (indexed kind) rest more ≡ Some o → nat_le o.1 255 ≡ true
 kind_or kind o rest other more later e = elim (or_some (indexed kind) rest more o e) [
   | inl b ↦ (let m = map_some _ (dec 255 b.value) o b.then in rw (← m.makes) (index_fit m.value b.value m.given))
   | inr there ↦ later there
@@ -282,4 +290,5 @@ kind_or kind o rest other more later e = elim (or_some (indexed kind) rest more 
 
 pub object_fit : (o : Kind × ℕ) (word : List ℕ) → object word ≡ Some o → nat_le o.1 255 ≡ true
 unfolding object
-object_fit o word e = kind_or Crtc o _ None _ (kind_or Plane o _ None _ (kind_or Conn o _ None _ (kind_or Enc o _ None None (nothing_read o)))) e
+object_fit o word e =
+    kind_or Crtc o _ None _ (kind_or Plane o _ None _ (kind_or Conn o _ None _ (kind_or Enc o _ None None (nothing_read o)))) e

@@ -22,7 +22,8 @@ pub by_recursion : {A : Type 0} (P : A → Type 0) (xs : List A) → All P xs �
 by_recursion P [] all = tt
 by_recursion P (x ∷ xs) all = (all zero x (omega arith), by_recursion P xs (λ k d lt. all (suc k) d (omega arith)))
 
-each_passes : {A : Type 0} (P : A → Type 0) (p : A → Bool) → ((x : A) → P x → p x ≡ true) → (xs : List A) → AllByRecursion P xs → list_all p xs ≡ true
+each_passes : {A : Type 0} (P : A → Type 0) (p : A → Bool) → ((x : A) → P x → p x ≡ true) → (xs : List A) → AllByRecursion P xs
+    → list_all p xs ≡ true
 each_passes P p passes [] all = refl
 each_passes P p passes (x ∷ xs) all = rw (passes x all.0, each_passes P p passes xs all.1) refl
 
@@ -67,7 +68,8 @@ ended_device d fit = record {
   conns = fit.conns;
 }
 
-keeps_own : (d : Draft) (names : List (List ℕ)) (clients : List (List Command)) → IsFitDevice d → 0 < length d.conns → All IsFitClient clients → length clients ≤ 16 → IsDistinct bytes_eq names
+keeps_own : (d : Draft) (names : List (List ℕ)) (clients : List (List Command)) → IsFitDevice d → 0 < length d.conns
+    → All IsFitClient clients → length clients ≤ 16 → IsDistinct bytes_eq names
     → KeepsLimits (record { version = d.names.profile; topology = topology_in d; names = names; clients = clients })
 keeps_own d names clients fit some each few differ = record {
   device = record { profile = fit.profile; legal = legal_device d fit some; kinds = λ k p lt. (fit.planes k p lt).kind };
@@ -81,9 +83,11 @@ keeps_own d names clients fit some each few differ = record {
 abbrev pub of_profile : Draft → ℕ → List (List ℕ) → List (List Command) → Script
 of_profile d profile names clients = record { version = profile; topology = record { profile = profile; crtcs = d.crtcs; planes = d.planes; conns = d.conns }; names = names; clients = clients }
 
-pub keeps_limits : (d : Draft) (profile : ℕ) (names : List (List ℕ)) (clients : List (List Command)) → profile ≡ d.names.profile → IsFitDevice d → 0 < length d.conns → All IsFitClient clients → length clients ≤ 16 → IsDistinct bytes_eq names
+pub keeps_limits : (d : Draft) (profile : ℕ) (names : List (List ℕ)) (clients : List (List Command)) → profile ≡ d.names.profile
+    → IsFitDevice d → 0 < length d.conns → All IsFitClient clients → length clients ≤ 16 → IsDistinct bytes_eq names
     → KeepsLimits (of_profile d profile names clients)
-keeps_limits d profile names clients same fit some each few differ = subst (λ p. KeepsLimits (of_profile d p names clients)) (sym same) (keeps_own d names clients fit some each few differ)
+keeps_limits d profile names clients same fit some each few differ =
+    subst (λ p. KeepsLimits (of_profile d p names clients)) (sym same) (keeps_own d names clients fit some each few differ)
 
 -- the device of a draft with a connector
 whole_device : (d : Draft) → IsFitDevice d → 0 < length d.conns → IsDevice (topology_in d)

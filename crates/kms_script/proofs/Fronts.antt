@@ -48,7 +48,8 @@ record EndsWell (d : Draft) (x : Parts) : Type 0 where
   makes : script_in d ≡ x.script
   none : x.steps ≡ []
 
-end_well : (none : Bool) (n size : ℕ) (d : Draft) (x : Parts) → is_nil d.conns ≡ none → cond none (Err (missing_line n)) (given (parts_of (script_in d) [] size)) ≡ Ok x → EndsWell d x
+end_well : (none : Bool) (n size : ℕ) (d : Draft) (x : Parts) → is_nil d.conns ≡ none
+    → cond none (Err (missing_line n)) (given (parts_of (script_in d) [] size)) ≡ Ok x → EndsWell d x
 end_well true n size d x is e = absurd cc
 end_well false n size d x is e = let same = same_parts (parts_of (script_in d) [] size) x e in record { some = is; makes = ap (λ (y : Parts). y.script) same; none = sym (ap (λ (y : Parts). y.steps) same) }
 
@@ -57,11 +58,13 @@ end_of part.Script size n d x e = end_well (is_nil d.conns) n size d x refl e
 end_of part.Schedule size n d x e = end_well (is_nil d.conns) n size d x refl e
 end_of part.Report size n d x e = absurd cc
 
-scheduled_script : (size : ℕ) (d : Draft) (r : Result (List Step) Fault) (x : Parts) → with_schedule size d r ≡ Ok x → script_in d ≡ x.script
+scheduled_script : (size : ℕ) (d : Draft) (r : Result (List Step) Fault) (x : Parts) → with_schedule size d r ≡ Ok x
+    → script_in d ≡ x.script
 scheduled_script size d (Ok steps) x e = ap (λ (y : Parts). y.script) (same_parts (parts_of (script_in d) steps size) x e)
 scheduled_script size d (Err fault) x e = absurd cc
 
-behind_of : (p : Part) (size n : ℕ) (d : Draft) (row : Row) (rows : List Row) (x : Parts) → behind_script p size d n row rows ≡ Ok x → script_in d ≡ x.script
+behind_of : (p : Part) (size n : ℕ) (d : Draft) (row : Row) (rows : List Row) (x : Parts) → behind_script p size d n row rows ≡ Ok x
+    → script_in d ≡ x.script
 behind_of part.Script size n d row rows x e = scheduled_script size d (steps_in (n + 1) rows) x e
 behind_of part.Schedule size n d row rows x e = scheduled_script size d (steps_in (n + 1) rows) x e
 behind_of part.Report size n d row rows x e = cc
@@ -70,7 +73,8 @@ no_line_more : (p : Part) (size n : ℕ) (d : Draft) (x : Parts) → EndsWell d 
 unfolding lines_after
 no_line_more p size n d x end = record { front = []; last = d; read = rw end.some refl; makes = end.makes; behind = inl (refl, end.none) }
 
-line_that_ends : (p : Part) (size n : ℕ) (d : Draft) (row : Row) (rows : List Row) (x : Parts) → ends_script p d row ≡ true → behind_script p size d n row rows ≡ Ok x → HasFront p size n d (row ∷ rows) x
+line_that_ends : (p : Part) (size n : ℕ) (d : Draft) (row : Row) (rows : List Row) (x : Parts) → ends_script p d row ≡ true
+    → behind_script p size d n row rows ≡ Ok x → HasFront p size n d (row ∷ rows) x
 unfolding lines_after
 line_that_ends p size n d row rows x ends then = record {
   front = [];
@@ -80,16 +84,19 @@ line_that_ends p size n d row rows x ends then = record {
   behind = inr (record { line = n; row = row; more = rows; are = refl; ends = ends; then = then });
 }
 
-line_in_front : (p : Part) (size n : ℕ) (d next : Draft) (row : Row) (rows : List Row) (x : Parts) → line_after d row ≡ Ok next → HasFront p size (n + 1) next rows x → HasFront p size n d (row ∷ rows) x
+line_in_front : (p : Part) (size n : ℕ) (d next : Draft) (row : Row) (rows : List Row) (x : Parts) → line_after d row ≡ Ok next
+    → HasFront p size (n + 1) next rows x → HasFront p size n d (row ∷ rows) x
 unfolding lines_after
-line_in_front p size n d next row rows x e f = record { front = row ∷ f.front; last = f.last; read = rw e f.read; makes = f.makes; behind = onto f.behind }
+line_in_front p size n d next row rows x e f =
+    record { front = row ∷ f.front; last = f.last; read = rw e f.read; makes = f.makes; behind = onto f.behind }
   where
     onto : ((rows ≡ f.front) × (x.steps ≡ [])) ⊎ HasEnd p size f.last f.front rows x → ((row ∷ rows ≡ row ∷ f.front) × (x.steps ≡ [])) ⊎ HasEnd p size f.last (row ∷ f.front) (row ∷ rows) x
     onto (inl none) = inl (ap (λ (rs : List Row). row ∷ rs) none.0, none.1)
     onto (inr end) = inr (record { line = end.line; row = end.row; more = end.more; are = ap (λ (rs : List Row). row ∷ rs) end.are; ends = end.ends; then = end.then })
 
 -- the lines of the script that an input has
-has_front : (p : Part) (size n : ℕ) (d : Draft) (rows : List Row) (x : Parts) → parts_after p size d n rows ≡ Ok x → HasFront p size n d rows x
+has_front : (p : Part) (size n : ℕ) (d : Draft) (rows : List Row) (x : Parts) → parts_after p size d n rows ≡ Ok x
+    → HasFront p size n d rows x
 unfolding parts_after
 has_front p size n d [] x e = no_line_more p size n d x (end_of p size n d x e)
 has_front p size n d (row ∷ rows) x e =
@@ -102,7 +109,8 @@ not_long : (long : Bool) (fault : Fault) (r : Result Parts Fault) (x : Parts) �
 not_long true fault r x e = absurd cc
 not_long false fault r x e = e
 
-pub input_front : (p : Part) (bytes : List ℕ) (x : Parts) → input_of p bytes ≡ Ok x → HasFront p (length bytes) 1 blank_draft (rows_of bytes) x
+pub input_front : (p : Part) (bytes : List ℕ) (x : Parts) → input_of p bytes ≡ Ok x
+    → HasFront p (length bytes) 1 blank_draft (rows_of bytes) x
 unfolding input_of
 input_front p bytes x e = has_front p (length bytes) 1 blank_draft (rows_of bytes) x (not_long (nat_lt input_limit (length bytes)) _ _ x e)
 
@@ -112,7 +120,8 @@ pub record IsFrontText (front : List Row) (s : Script) : Type 0 where
   pub text : flat_map ended_text front ≡ spelling s
   pub spells : Spells (spelling s) s
 
-pub front_text : (n : ℕ) (last : Draft) (front : List Row) (s : Script) → lines_after blank_draft n front ≡ Ok last → script_in last ≡ s → IsFrontText front s
+pub front_text : (n : ℕ) (last : Draft) (front : List Row) (s : Script) → lines_after blank_draft n front ≡ Ok last → script_in last ≡ s
+    → IsFrontText front s
 front_text n last front s read makes =
     let spelt : spelt_lines blank_draft front ≡ Some (resized 0 last) = read_is_spelt 0 n blank_draft last front read in
     let text = rows_are_text (resized 0 last) front spelt in

@@ -20,7 +20,8 @@ record IsGlyph (b value : ℕ) : Type 0 where
   glyph : digit_glyph false value ≡ b
   first : value ≡ 0 → b ≡ 48
 
-glyph_step : (t : Bool) (b : ℕ) → (nat_le 48 b && nat_le b 57) ≡ t → (t || (nat_le 97 b && nat_le b 102)) ≡ true → IsGlyph b (cond t (b - 48) (b - 87))
+glyph_step : (t : Bool) (b : ℕ) → (nat_le 48 b && nat_le b 57) ≡ t → (t || (nat_le 97 b && nat_le b 102)) ≡ true
+    → IsGlyph b (cond t (b - 48) (b - 87))
 glyph_step true b is h =
     let parts = and_parts (nat_le 48 b) (nat_le b 57) is in
     let low : 48 ≤ b = leb-true 48 b parts.0 in
@@ -59,11 +60,13 @@ last_digit : (k n : ℕ) (acc : List ℕ) → n / 16 ≡ 0 → digits_onto (suc 
 last_digit k n acc e = rw (eq-eqb (n / 16) 0 e) refl
 
 -- and each other one before it
-next_digit : (k n : ℕ) (acc : List ℕ) → (n / 16 ≡ 0 → ⊥) → digits_onto (suc k) 16 false n acc ≡ digits_onto k 16 false (n / 16) (digit_glyph false (n % 16) ∷ acc)
+next_digit : (k n : ℕ) (acc : List ℕ) → (n / 16 ≡ 0 → ⊥)
+    → digits_onto (suc k) 16 false n acc ≡ digits_onto k 16 false (n / 16) (digit_glyph false (n % 16) ∷ acc)
 next_digit k n acc e = rw (ne_eqb (n / 16) 0 e) refl
 
 -- the digits of a number of which the first is not 0, at the end those read behind it
-onto_from : (i k n : ℕ) (ds acc : List ℕ) → i ≡ k + length ds → 0 < n → list_all is_hex ds ≡ true → digits_onto i 16 false (hex_from n ds) acc ≡ digits_onto k 16 false n (ds ++ acc)
+onto_from : (i k n : ℕ) (ds acc : List ℕ) → i ≡ k + length ds → 0 < n → list_all is_hex ds ≡ true
+    → digits_onto i 16 false (hex_from n ds) acc ≡ digits_onto k 16 false n (ds ++ acc)
 onto_from i k n [] acc e some h = let same : i ≡ k = omega arith in rw same refl
 onto_from i k n (d ∷ ds) acc e some h =
     let parts = and_parts (is_hex d) (list_all is_hex ds) h in
@@ -74,7 +77,8 @@ onto_from i k n (d ∷ ds) acc e some h =
     ∙ next_digit k (n * 16 + hex_value d) (ds ++ acc) large
     ∙ rw (s.0, s.1, g.glyph) refl
 
-number_step : (t : Bool) (d : ℕ) (ds : List ℕ) → (d == 48) ≡ t → cond t (length ds == 0) (list_all is_hex (d ∷ ds)) ≡ true → length ds < 8 → digits 16 false (hex_from 0 (d ∷ ds)) ≡ d ∷ ds
+number_step : (t : Bool) (d : ℕ) (ds : List ℕ) → (d == 48) ≡ t → cond t (length ds == 0) (list_all is_hex (d ∷ ds)) ≡ true → length ds < 8
+    → digits 16 false (hex_from 0 (d ∷ ds)) ≡ d ∷ ds
 unfolding digits
 number_step true d ds is h few =
     let first : d ≡ 48 = eqb-true d 48 is in

@@ -16,7 +16,8 @@ bind_some None f y e = absurd cc
 bind_some (Some x) f y e = record { value = x; given = refl; then = e }
 
 -- the same, with what follows from it
-pub from_bind : {A B P : Type 0} (o : Option A) (f : A → Option B) (y : B) → (o >>= f) ≡ Some y → ((x : A) → o ≡ Some x → f x ≡ Some y → P) → P
+pub from_bind : {A B P : Type 0} (o : Option A) (f : A → Option B) (y : B) → (o >>= f) ≡ Some y → ((x : A) → o ≡ Some x → f x ≡ Some y → P)
+    → P
 from_bind o f y e follows = let b = bind_some o f y e in follows b.value b.given b.then
 
 -- a value behind a test passed the test
@@ -40,11 +41,13 @@ pub some_same : {A : Type 0} (x y : A) → Some x ≡ Some y → x ≡ y
 some_same x y e = cc
 
 -- one of two: the first where it is there
-pub or_some : {A B : Type 0} (f : A → Option B) (o : Option A) (other : Option B) (y : B) → option_map_or f o other ≡ Some y → Bound o f y ⊎ (other ≡ Some y)
+pub or_some : {A B : Type 0} (f : A → Option B) (o : Option A) (other : Option B) (y : B) → option_map_or f o other ≡ Some y
+    → Bound o f y ⊎ (other ≡ Some y)
 or_some f None other y e = inr e
 or_some f (Some x) other y e = inl (record { value = x; given = refl; then = e })
 
 -- one of two by a test
-pub choice_some : {A : Type 0} (t : Bool) (one other : Option A) (y : A) → cond t one other ≡ Some y → ((t ≡ true) × (one ≡ Some y)) ⊎ (other ≡ Some y)
+pub choice_some : {A : Type 0} (t : Bool) (one other : Option A) (y : A) → cond t one other ≡ Some y
+    → ((t ≡ true) × (one ≡ Some y)) ⊎ (other ≡ Some y)
 choice_some true one other y e = inl (refl, e)
 choice_some false one other y e = inr e

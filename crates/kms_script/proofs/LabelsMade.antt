@@ -33,7 +33,8 @@ pub said_keeps : (w v : List ℕ) (ns : List Name) → was_made w (said v ns) �
 said_keeps w v [] = none_made (bytes_eq w v)
 said_keeps w v (n ∷ ns) = said_step (bytes_eq v n.word) w v n ns (said_keeps w v ns)
 
-made_step : (u : Bool) (w v : List ℕ) (n : Name) (ns after : List Name) → bytes_eq v n.word ≡ u → was_made w after ≡ (bytes_eq w v || was_made w ns)
+made_step : (u : Bool) (w v : List ℕ) (n : Name) (ns after : List Name) → bytes_eq v n.word ≡ u
+    → was_made w after ≡ (bytes_eq w v || was_made w ns)
     → was_made w (cond u (record { word = n.word; is_made = true } ∷ ns) (n ∷ after)) ≡ (bytes_eq w v || was_made w (n ∷ ns))
 made_step true w v n ns after e ih = let same : v ≡ n.word = (bytes_eq-Decides v n.word).0 e in rw same (here (bytes_eq w n.word) n.is_made (was_made w ns))
   where
@@ -101,7 +102,8 @@ property_makes names word = step (known_property names.profile word)
     step None = saying_makes word names
     step (Some id) = nothing_makes names
 
-was_same : (label : Option (List ℕ)) (a b : Names) → ((w : List ℕ) → was_made w b.all ≡ was_made w a.all) → was_it label b.all ≡ was_it label a.all
+was_same : (label : Option (List ℕ)) (a b : Names) → ((w : List ℕ) → was_made w b.all ≡ was_made w a.all)
+    → was_it label b.all ≡ was_it label a.all
 was_same None a b same = refl
 was_same (Some label) a b same = same label
 
@@ -120,15 +122,18 @@ Agrees None names (Some label) = ⊥
 Agrees (Some read) names None = ⊥
 Agrees (Some read) names (Some label) = Makes names label read.1
 
-named_agrees : (names : Names) (label : List ℕ) (t : Bool) → Agrees (cond t (Some (value.Named (place label names), saying label names)) None) names (cond t (Some None) None)
+named_agrees : (names : Names) (label : List ℕ) (t : Bool)
+    → Agrees (cond t (Some (value.Named (place label names), saying label names)) None) names (cond t (Some None) None)
 named_agrees names label true = saying_makes label names
 named_agrees names label false = tt
 
-new_agrees : (names : Names) (label : List ℕ) (t : Bool) → Agrees (cond t (Some (value.New (place label names), making label names)) None) names (cond t (Some (Some label)) None)
+new_agrees : (names : Names) (label : List ℕ) (t : Bool)
+    → Agrees (cond t (Some (value.New (place label names), making label names)) None) names (cond t (Some (Some label)) None)
 new_agrees names label true = making_makes label names
 new_agrees names label false = tt
 
-plain_agrees : {A : Type 0} (names : Names) (f : A → Value) (o : Option A) → Agrees (option_map (λ x. (f x, names)) o) names (option_map (λ x. None) o)
+plain_agrees : {A : Type 0} (names : Names) (f : A → Value) (o : Option A)
+    → Agrees (option_map (λ x. (f x, names)) o) names (option_map (λ x. None) o)
 plain_agrees names f None = tt
 plain_agrees names f (Some x) = nothing_makes names
 
@@ -150,7 +155,8 @@ value_agrees : (names : Names) (word : List ℕ) → Agrees (value_read names wo
 unfolding value_read value_label
 value_agrees names word = values_agree names word (strip (codes "@") word) (strip (codes "+") word) (strip (codes "crtc") word)
 
-after_property : (names after : Names) (f : Value → Assign) (o : Option (Value × Names)) (label : Option (Option (List ℕ))) → Makes names None after → Agrees o after label → Agrees (o >>= (λ v. Some (f v.0, v.1))) names label
+after_property : (names after : Names) (f : Value → Assign) (o : Option (Value × Names)) (label : Option (Option (List ℕ)))
+    → Makes names None after → Agrees o after label → Agrees (o >>= (λ v. Some (f v.0, v.1))) names label
 after_property names after f None None first next = tt
 after_property names after f None (Some label) first next = next
 after_property names after f (Some v) None first next = next
@@ -191,11 +197,14 @@ any_last w v (x ∷ seen) = rw (any_last w v seen) (swap (bytes_eq w x) (bytes_e
     swap true false more = refl
     swap false t more = refl
 
-label_step : (names after : Names) (seen : List (List ℕ)) (label : List ℕ) (labels : List (List ℕ)) (last : Bool) → Makes names (Some label) after → Holds names seen → last ≡ (after.is_twice || twice_in (seen ++ label ∷ []) labels)
+label_step : (names after : Names) (seen : List (List ℕ)) (label : List ℕ) (labels : List (List ℕ)) (last : Bool)
+    → Makes names (Some label) after → Holds names seen → last ≡ (after.is_twice || twice_in (seen ++ label ∷ []) labels)
     → last ≡ (names.is_twice || twice_in seen (label ∷ labels))
-label_step names after seen label labels last makes holds is = is ∙ rw (makes.twice, holds label) (or-assoc names.is_twice (list_any (bytes_eq label) seen) (twice_in (seen ++ label ∷ []) labels))
+label_step names after seen label labels last makes holds is =
+    is ∙ rw (makes.twice, holds label) (or-assoc names.is_twice (list_any (bytes_eq label) seen) (twice_in (seen ++ label ∷ []) labels))
 
-label_holds : (names after : Names) (seen : List (List ℕ)) (label : List ℕ) → Makes names (Some label) after → Holds names seen → Holds after (seen ++ label ∷ [])
+label_holds : (names after : Names) (seen : List (List ℕ)) (label : List ℕ) → Makes names (Some label) after → Holds names seen
+    → Holds after (seen ++ label ∷ [])
 label_holds names after seen label makes holds = λ w. makes.was w ∙ rw (holds w) (sym (any_last w label seen))
 
 row_step : (names : Names) (seen : List (List ℕ)) (count : ℕ) (a : Assign × Names) (label : Option (List ℕ)) (read : Option (List Assign × Names)) (labels : Option (List (List ℕ))) → Makes names label a.1 → Holds names seen
@@ -204,9 +213,11 @@ row_step : (names : Names) (seen : List (List ℕ)) (count : ℕ) (a : Assign ×
 row_step names seen count a None None None makes holds ih = tt
 row_step names seen count a (Some label) None None makes holds ih = tt
 row_step names seen count a None None (Some ls) makes holds ih = ih seen (λ w. makes.was w ∙ holds w)
-row_step names seen count a (Some label) None (Some ls) makes holds ih = ih (seen ++ label ∷ []) (label_holds names a.1 seen label makes holds)
+row_step names seen count a (Some label) None (Some ls) makes holds ih =
+    ih (seen ++ label ∷ []) (label_holds names a.1 seen label makes holds)
 row_step names seen count a None (Some more) None makes holds ih = ih seen (λ w. makes.was w ∙ holds w)
-row_step names seen count a (Some label) (Some more) None makes holds ih = ih (seen ++ label ∷ []) (label_holds names a.1 seen label makes holds)
+row_step names seen count a (Some label) (Some more) None makes holds ih =
+    ih (seen ++ label ∷ []) (label_holds names a.1 seen label makes holds)
 row_step names seen count a None (Some more) (Some ls) makes holds ih =
     let h = ih seen (λ w. makes.was w ∙ holds w) in
     (h.0 ∙ rw (makes.twice, ← or_none names.is_twice) refl, rw (add_one (length more.0), h.1) refl)
@@ -220,15 +231,18 @@ row_step names seen count a (Some label) (Some more) (Some ls) makes holds ih =
     add_one : (n : ℕ) → suc n ≡ n + 1
     add_one n = omega arith
 
-first_step : (names : Names) (seen : List (List ℕ)) (ws : List (List ℕ)) (o : Option (Assign × Names)) (label : Option (Option (List ℕ))) → Agrees o names label → Holds names seen
+first_step : (names : Names) (seen : List (List ℕ)) (ws : List (List ℕ)) (o : Option (Assign × Names)) (label : Option (Option (List ℕ)))
+    → Agrees o names label → Holds names seen
     → ((after : Names) (next : List (List ℕ)) → Holds after next → AllAgree (assigns_read after ws) after next (length ws) (labels_made ws))
     → AllAgree (o >>= (λ a. assigns_read a.1 ws >>= (λ more. Some (a.0 ∷ more.0, more.1)))) names seen (length ws + 1) (label >>= (λ l. labels_made ws >>= (λ ls. Some (label_and l ls))))
 first_step names seen ws None None agrees holds ih = tt
 first_step names seen ws None (Some l) agrees holds ih = absurd agrees
 first_step names seen ws (Some a) None agrees holds ih = absurd agrees
-first_step names seen ws (Some a) (Some l) agrees holds ih = row_step names seen (length ws) a l (assigns_read a.1 ws) (labels_made ws) agrees holds (λ next h. ih a.1 next h)
+first_step names seen ws (Some a) (Some l) agrees holds ih =
+    row_step names seen (length ws) a l (assigns_read a.1 ws) (labels_made ws) agrees holds (λ next h. ih a.1 next h)
 
-pub assigns_agree : (ws : List (List ℕ)) (names : Names) (seen : List (List ℕ)) → Holds names seen → AllAgree (assigns_read names ws) names seen (length ws) (labels_made ws)
+pub assigns_agree : (ws : List (List ℕ)) (names : Names) (seen : List (List ℕ)) → Holds names seen
+    → AllAgree (assigns_read names ws) names seen (length ws) (labels_made ws)
 assigns_agree [] names seen holds = (or_none names.is_twice, refl)
 assigns_agree (w ∷ ws) names seen holds = rw (add_one (length ws)) (first_step names seen ws (assign_read names w) (assign_label w) (assign_agrees names w) holds (λ after next h. assigns_agree ws after next h))
   where

@@ -15,6 +15,9 @@ pub mod FitWords
 pub mod Formed
 pub mod FormsAlike
 pub mod Fronts
+pub mod GeneratedLimits
+pub mod GeneratedLines
+pub mod GeneratedScripts
 pub mod HexBack
 pub mod Hexadecimals
 pub mod Inverted

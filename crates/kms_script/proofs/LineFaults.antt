@@ -28,11 +28,13 @@ use Rattle.kms_script.proofs.SpeltWords.{nothing_read}
 abbrev IsFew : Command × Names → Type 0
 IsFew r = is_over r.0 ≡ false
 
-naming_few : (f : ℕ → Command) → ((n : ℕ) → is_over (f n) ≡ false) → (names : Names) (bytes : List ℕ) (r : Command × Names) → naming_read f names bytes ≡ Some r → IsFew r
+naming_few : (f : ℕ → Command) → ((n : ℕ) → is_over (f n) ≡ false) → (names : Names) (bytes : List ℕ) (r : Command × Names)
+    → naming_read f names bytes ≡ Some r → IsFew r
 unfolding naming_read
 naming_few f few names bytes r e = from_bind (label_alone bytes) _ r e (λ label alone more. rw (← some_same _ r more) (few _))
 
-making_few : (f : ℕ → Command) → ((n : ℕ) → is_over (f n) ≡ false) → (names : Names) (bytes : List ℕ) (r : Command × Names) → making_read f names bytes ≡ Some r → IsFew r
+making_few : (f : ℕ → Command) → ((n : ℕ) → is_over (f n) ≡ false) → (names : Names) (bytes : List ℕ) (r : Command × Names)
+    → making_read f names bytes ≡ Some r → IsFew r
 unfolding making_read
 making_few f few names bytes r e = from_bind (label_alone bytes) _ r e (λ label alone more. rw (← some_same _ r more) (few _))
 
@@ -52,7 +54,8 @@ blob_few : (names : Names) (bytes : List ℕ) (r : Command × Names) → blob_re
 blob_few names bytes r e = rw (← (blob_line_parts names bytes r e).makes) refl
 
 -- by a first word that is one of several
-by_word : (t : Bool) (r : Command × Names) (one other : Option (Command × Names)) → (one ≡ Some r → IsFew r) → (other ≡ Some r → IsFew r) → cond t one other ≡ Some r → IsFew r
+by_word : (t : Bool) (r : Command × Names) (one other : Option (Command × Names)) → (one ≡ Some r → IsFew r) → (other ≡ Some r → IsFew r)
+    → cond t one other ≡ Some r → IsFew r
 by_word t r one other here there e = elim (choice_some t one other r e) [
   | inl is ↦ here is.1
   | inr more ↦ there more
@@ -75,7 +78,8 @@ label_few names keyword bytes r e =
     (by_word (bytes_eq keyword (codes "signal")) r _ _ (naming_few command.Signal (λ n. refl) names bytes r)
     (thing_few names keyword bytes r)))) e
 
-wait_few : (names : Names) (bytes : List ℕ) (r : Command × Names) → option_map (λ u. (command.Wait, names)) (end_at bytes) ≡ Some r → IsFew r
+wait_few : (names : Names) (bytes : List ℕ) (r : Command × Names) → option_map (λ u. (command.Wait, names)) (end_at bytes) ≡ Some r
+    → IsFew r
 wait_few names bytes r e = let m = map_some _ (end_at bytes) r e in rw (← m.makes) refl
 
 -- Requests
@@ -97,7 +101,8 @@ atomic_few names bytes r few e =
     test n le = grind (arith, nat_tests)
 
 -- a line with no more fields than a request may have is that of a command with no more assignments
-few_assigns : (names : Names) (text : List ℕ) (r : Command × Names) → (bytes_eq (until 32 text) (codes "atomic") && has_many (from 32 text)) ≡ false → command_read names text ≡ Some r → IsFew r
+few_assigns : (names : Names) (text : List ℕ) (r : Command × Names)
+    → (bytes_eq (until 32 text) (codes "atomic") && has_many (from 32 text)) ≡ false → command_read names text ≡ Some r → IsFew r
 unfolding command_read
 few_assigns names text r few e = step (bytes_eq (until 32 text) (codes "atomic")) few e
   where
@@ -122,22 +127,21 @@ fits (command.Signal label) filled few = tt
 fits command.Wait filled few = tt
 
 -- such a command is within the limits of one
-pub fit_command : (names after : Names) (text : List ℕ) (c : Command) → (bytes_eq (until 32 text) (codes "atomic") && has_many (from 32 text)) ≡ false → command_read names text ≡ Some (c, after) → HasFilled c → IsFitCommand c
+pub fit_command : (names after : Names) (text : List ℕ) (c : Command)
+    → (bytes_eq (until 32 text) (codes "atomic") && has_many (from 32 text)) ≡ false → command_read names text ≡ Some (c, after)
+    → HasFilled c → IsFitCommand c
 fit_command names after text c few e filled = fits c filled (few_assigns names text (c, after) few e)
 
 -- Lines
 
-pub atomic_line : (names : Names) (text : List ℕ) → bytes_eq (until 32 text) (codes "atomic") ≡ true → line_of names text ≡ checked (atomic_read names (from 32 text))
+pub atomic_line : (names : Names) (text : List ℕ) → bytes_eq (until 32 text) (codes "atomic") ≡ true
+    → line_of names text ≡ checked (atomic_read names (from 32 text))
 unfolding command_read
 atomic_line names text e = rw e refl
 
-pub no_form : (names : Names) (text : List ℕ) → command_read names text ≡ None → line_of names text ≡ Err Form
-no_form names text e = rw e refl
-
-pub label_twice : (names after : Names) (text : List ℕ) (c : Command) → command_read names text ≡ Some (c, after) → after.is_twice ≡ true → line_of names text ≡ Err Label
-label_twice names after text c e twice = rw (e, twice) refl
-
-pub line_read_well : (names after : Names) (text : List ℕ) (c : Command) → (bytes_eq (until 32 text) (codes "atomic") && has_many (from 32 text)) ≡ false → command_read names text ≡ Some (c, after) → after.is_twice ≡ false → line_of names text ≡ Ok (c, after)
+pub line_read_well : (names after : Names) (text : List ℕ) (c : Command)
+    → (bytes_eq (until 32 text) (codes "atomic") && has_many (from 32 text)) ≡ false → command_read names text ≡ Some (c, after)
+    → after.is_twice ≡ false → line_of names text ≡ Ok (c, after)
 line_read_well names after text c few e once = rw (e, once, few_assigns names text (c, after) few e) refl
 
 -- A line alone
@@ -173,7 +177,8 @@ read_step (Some r) c after e = step r.1.is_twice (is_over r.0) e
     step false false e = let same : r ≡ (c, after) = cc in rw same refl
 
 -- a command with the names after it
-pub alone_read : (profile : ℕ) (words : List (List ℕ)) (text : List ℕ) (c : Command) (after : Names) → line_of (unmade profile words) text ≡ Ok (c, after) → line_read profile words text ≡ Ok (c, words_in after)
+pub alone_read : (profile : ℕ) (words : List (List ℕ)) (text : List ℕ) (c : Command) (after : Names)
+    → line_of (unmade profile words) text ≡ Ok (c, after) → line_read profile words text ≡ Ok (c, words_in after)
 unfolding line_read
 alone_read profile words text c after e = read_step (command_read (unmade profile words) text) c after e
 
@@ -202,7 +207,8 @@ fault_step (Some r) why e = step r.1.is_twice (is_over r.0) e
         none : Ok r ≡ Err why → ⊥
         none e = cc
 
-error_step : (stated : Result (Command × List (List ℕ)) Why) (after : List (List ℕ)) (why : Why) → FaultAlone stated why → GivesCommand (Err (line_error (stops.Fault why))) stated after
+error_step : (stated : Result (Command × List (List ℕ)) Why) (after : List (List ℕ)) (why : Why) → FaultAlone stated why
+    → GivesCommand (Err (line_error (stops.Fault why))) stated after
 error_step stated after Form f = f.same
 error_step stated after Label f = f.same
 error_step stated after Limit f = f.same
@@ -210,7 +216,10 @@ error_step stated after Bytes f = absurd (false≢true f.of_line)
 error_step stated after Cut f = absurd (false≢true f.of_line)
 
 -- the error of a line
-pub alone_stopped : (profile : ℕ) (words after : List (List ℕ)) (text : List ℕ) (names : Names) (stop : Stop) → GivesLine (Err stop) (line_of (unmade profile words) text) names → GivesCommand (Err (line_error stop)) (line_read profile words text) after
+pub alone_stopped : (profile : ℕ) (words after : List (List ℕ)) (text : List ℕ) (names : Names) (stop : Stop)
+    → GivesLine (Err stop) (line_of (unmade profile words) text) names
+    → GivesCommand (Err (line_error stop)) (line_read profile words text) after
 unfolding line_read
-alone_stopped profile words after text names (stops.Fault why) e = error_step _ after why (fault_step (command_read (unmade profile words) text) why e)
+alone_stopped profile words after text names (stops.Fault why) e =
+    error_step _ after why (fault_step (command_read (unmade profile words) text) why e)
 alone_stopped profile words after text names stops.NoMemory e = tt

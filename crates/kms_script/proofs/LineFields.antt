@@ -23,13 +23,16 @@ line_fields k (w ∷ ws) = ap (λ (bs : List ℕ). k ++ (32 ∷ bs)) (line_field
 -- what follows fields
 pub fields_end : (ws : List (List ℕ)) (after more : List ℕ) → fields_to ws after ++ more ≡ fields_to ws (after ++ more)
 fields_end [] after more = refl
-fields_end (w ∷ ws) after more = ap (λ (bs : List ℕ). 32 ∷ bs) (append_assoc w (fields_to ws after) more ∙ ap (λ (bs : List ℕ). w ++ bs) (fields_end ws after more))
+fields_end (w ∷ ws) after more =
+    ap (λ (bs : List ℕ). 32 ∷ bs) (append_assoc w (fields_to ws after) more ∙ ap (λ (bs : List ℕ). w ++ bs) (fields_end ws after more))
 
 -- one field more in front
-pub then_fields : (w : List ℕ) (ws : List (List ℕ)) (after rest bytes : List ℕ) → 32 ∷ (w ++ rest) ≡ bytes → fields_to ws after ≡ rest → fields_to (w ∷ ws) after ≡ bytes
+pub then_fields : (w : List ℕ) (ws : List (List ℕ)) (after rest bytes : List ℕ) → 32 ∷ (w ++ rest) ≡ bytes → fields_to ws after ≡ rest
+    → fields_to (w ∷ ws) after ≡ bytes
 then_fields w ws after rest bytes first more = rw (← first, more) refl
 
-split_step : (t : Bool) (c b : ℕ) (bs : List ℕ) → until c bs ++ from c bs ≡ bs → cond t [] (b ∷ until c bs) ++ cond t (b ∷ bs) (from c bs) ≡ b ∷ bs
+split_step : (t : Bool) (c b : ℕ) (bs : List ℕ) → until c bs ++ from c bs ≡ bs
+    → cond t [] (b ∷ until c bs) ++ cond t (b ∷ bs) (from c bs) ≡ b ∷ bs
 split_step true c b bs ih = refl
 split_step false c b bs ih = ap (λ (xs : List ℕ). b ∷ xs) ih
 
@@ -48,7 +51,8 @@ field_spelt (b ∷ bs) f e =
     let same : (until 32 bs, from 32 bs) ≡ f = some_same (until 32 bs, from 32 bs) f read.1 in
     rw (← same, blank, until_from 32 bs) refl
 
-strip_step : (t : Bool) (p b : ℕ) (ps bs rest : List ℕ) → (t ≡ true → p ≡ b) → (strip ps bs ≡ Some rest → ps ++ rest ≡ bs) → cond t (strip ps bs) None ≡ Some rest → p ∷ (ps ++ rest) ≡ b ∷ bs
+strip_step : (t : Bool) (p b : ℕ) (ps bs rest : List ℕ) → (t ≡ true → p ≡ b) → (strip ps bs ≡ Some rest → ps ++ rest ≡ bs)
+    → cond t (strip ps bs) None ≡ Some rest → p ∷ (ps ++ rest) ≡ b ∷ bs
 strip_step true p b ps bs rest same ih e = rw (same refl, ih e) refl
 strip_step false p b ps bs rest same ih e = absurd cc
 
@@ -64,10 +68,12 @@ end_spelt [] u e = refl
 end_spelt (b ∷ bs) u e = absurd cc
 
 -- one byte more at the front of the first word
-onto_fields : (b : ℕ) (w : List ℕ) (ws : List (List ℕ)) (bs : List ℕ) → w ++ fields_to ws [] ≡ bs → fields_to (onto_first b (w ∷ ws)) [] ≡ 32 ∷ b ∷ bs
+onto_fields : (b : ℕ) (w : List ℕ) (ws : List (List ℕ)) (bs : List ℕ) → w ++ fields_to ws [] ≡ bs
+    → fields_to (onto_first b (w ∷ ws)) [] ≡ 32 ∷ b ∷ bs
 onto_fields b w ws bs e = ap (λ (xs : List ℕ). 32 ∷ b ∷ xs) e
 
-parted_step : (t : Bool) (b : ℕ) (bs : List ℕ) → (t ≡ true → b ≡ 32) → fields_to (parted 32 bs) [] ≡ 32 ∷ bs → fields_to (cond t ([] ∷ parted 32 bs) (onto_first b (parted 32 bs))) [] ≡ 32 ∷ b ∷ bs
+parted_step : (t : Bool) (b : ℕ) (bs : List ℕ) → (t ≡ true → b ≡ 32) → fields_to (parted 32 bs) [] ≡ 32 ∷ bs
+    → fields_to (cond t ([] ∷ parted 32 bs) (onto_first b (parted 32 bs))) [] ≡ 32 ∷ b ∷ bs
 parted_step true b bs same ih = rw (same refl, ih) refl
 parted_step false b bs same ih =
     let first : fields_to (until 32 bs ∷ later_parts 32 (from 32 bs)) [] ≡ 32 ∷ bs = rw first_part at ih in

@@ -17,14 +17,16 @@ use Rattle.kms_script.proofs.SpeltFields.{dec_at_spelt}
 use Rattle.kms_script.proofs.ListsSpelt.{crtcs_spelt, formats_spelt}
 
 -- fields up to the end of a line, behind a line's first word
-pub line_spelt : (key : List ℕ) (words : List (List ℕ)) (text : List ℕ) → bytes_eq (until 32 text) key ≡ true → fields_to words [] ≡ from 32 text → line (key ∷ words) ≡ text ++ 10 ∷ []
+pub line_spelt : (key : List ℕ) (words : List (List ℕ)) (text : List ℕ) → bytes_eq (until 32 text) key ≡ true
+    → fields_to words [] ≡ from 32 text → line (key ∷ words) ≡ text ++ 10 ∷ []
 line_spelt key words text is fields =
     let first : until 32 text ≡ key = (bytes_eq-Decides (until 32 text) key).0 is in
     let all : key ++ fields_to words [] ≡ text = rw (← first, fields) (until_from 32 text) in
     line_fields key words ∙ ap (λ (bs : List ℕ). key ++ bs) (sym (fields_end words [] (10 ∷ []))) ∙ sym (append_assoc key (fields_to words []) (10 ∷ [])) ∙ ap (λ (bs : List ℕ). bs ++ 10 ∷ []) all
 
 -- the last field
-last_field : (bytes : List ℕ) (f : List ℕ × List ℕ) (u : Unit {0}) → field_at bytes ≡ Some f → end_at f.1 ≡ Some u → fields_to (f.0 ∷ []) [] ≡ bytes
+last_field : (bytes : List ℕ) (f : List ℕ × List ℕ) (u : Unit {0}) → field_at bytes ≡ Some f → end_at f.1 ≡ Some u
+    → fields_to (f.0 ∷ []) [] ≡ bytes
 last_field bytes f u e done = then_fields f.0 [] [] f.1 bytes (field_spelt bytes f e) (end_spelt f.1 u done)
 
 -- the number that was read of a field, which is not 0 and at most 4
@@ -56,7 +58,8 @@ count_spelt bytes n e =
     }
 
 -- the one of three words that was found
-type_cases : (overlay primary cursor : Bool) (w : List ℕ) (kind : ℕ) → (overlay ≡ true → w ≡ codes "overlay") → (primary ≡ true → w ≡ codes "primary") → (cursor ≡ true → w ≡ codes "cursor")
+type_cases : (overlay primary cursor : Bool) (w : List ℕ) (kind : ℕ) → (overlay ≡ true → w ≡ codes "overlay")
+    → (primary ≡ true → w ≡ codes "primary") → (cursor ≡ true → w ≡ codes "cursor")
     → cond overlay (Some 0) (cond primary (Some 1) (cond cursor (Some 2) None)) ≡ Some kind → type_word kind ≡ w
 type_cases true primary cursor w kind o p c e = rw (← some_same 0 kind e) (sym (o refl))
 type_cases false true cursor w kind o p c e = rw (← some_same 1 kind e) (sym (p refl))
@@ -74,7 +77,8 @@ abbrev pub later_words : PlaneInfo → List (List ℕ)
 later_words p = type_word p.kind ∷ crtcs_word p.crtcs ∷ formats_word p.formats ∷ []
 
 -- the fields of a plane that was read
-pub plane_spelt : (crtcs : ℕ) (bytes : List ℕ) (p : PlaneInfo) → crtcs ≤ 4 → plane_fields crtcs bytes ≡ Some p → fields_to (later_words p) [] ≡ bytes
+pub plane_spelt : (crtcs : ℕ) (bytes : List ℕ) (p : PlaneInfo) → crtcs ≤ 4 → plane_fields crtcs bytes ≡ Some p
+    → fields_to (later_words p) [] ≡ bytes
 unfolding plane_fields
 plane_spelt crtcs bytes p few e =
     let t = bind_some (field_at bytes) _ p e in
@@ -92,7 +96,8 @@ plane_spelt crtcs bytes p few e =
     rw (← some_same given p formats.then, type_spelt t.value.0 kind.value kind.given, crtcs_spelt crtcs mask.value l.value.0 few mask.given, formats_spelt formats.value f.value.0 formats.given) fields
 
 -- the field of a connector that was read
-pub conn_spelt : (crtcs : ℕ) (bytes : List ℕ) (mask : ℕ) → crtcs ≤ 4 → conn_at crtcs bytes ≡ Some mask → fields_to (crtcs_word mask ∷ []) [] ≡ bytes
+pub conn_spelt : (crtcs : ℕ) (bytes : List ℕ) (mask : ℕ) → crtcs ≤ 4 → conn_at crtcs bytes ≡ Some mask
+    → fields_to (crtcs_word mask ∷ []) [] ≡ bytes
 unfolding conn_at
 conn_spelt crtcs bytes mask few e =
     let l = bind_some (field_at bytes) _ mask e in

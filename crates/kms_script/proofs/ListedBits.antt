@@ -33,7 +33,8 @@ doubled : (low : ℕ) → 2 * 2 ^ low ≡ 2 ^ (low + 1)
 doubled low = omega (arith, pow_more 2 low)
 
 -- a bit is not set
-skipped : (word_of : ℕ → List ℕ) (low count mask : ℕ) (words : List (List ℕ)) → AreBits word_of (low + 1) count mask words → AreBits word_of low (suc count) mask words
+skipped : (word_of : ℕ → List ℕ) (low count mask : ℕ) (words : List (List ℕ)) → AreBits word_of (low + 1) count mask words
+    → AreBits word_of low (suc count) mask words
 skipped word_of low count mask words b = record {
   bits = false ∷ b.bits;
   many = omega (arith, b.many);
@@ -42,7 +43,8 @@ skipped word_of low count mask words b = record {
 }
 
 -- a bit is set
-taken : (word_of : ℕ → List ℕ) (low count more mask : ℕ) (w : List ℕ) (words : List (List ℕ)) → word_of low ≡ w → 2 ^ low + more ≡ mask → AreBits word_of (low + 1) count more words → AreBits word_of low (suc count) mask (w ∷ words)
+taken : (word_of : ℕ → List ℕ) (low count more mask : ℕ) (w : List ℕ) (words : List (List ℕ)) → word_of low ≡ w → 2 ^ low + more ≡ mask
+    → AreBits word_of (low + 1) count more words → AreBits word_of low (suc count) mask (w ∷ words)
 taken word_of low count more mask w words e whole b = record {
   bits = true ∷ b.bits;
   many = omega (arith, b.many);
@@ -60,7 +62,8 @@ record Begun (bit_of : List ℕ → Option ℕ) (low mask : ℕ) (w : List ℕ) 
   whole : 2 ^ bit + more ≡ mask
 
 -- what was read of a first word and of the words behind it
-begun : (bit_of : List ℕ → Option ℕ) (low mask : ℕ) (w : List ℕ) (ws : List (List ℕ)) → rising bit_of low (w ∷ ws) ≡ Some mask → Begun bit_of low mask w ws
+begun : (bit_of : List ℕ → Option ℕ) (low mask : ℕ) (w : List ℕ) (ws : List (List ℕ)) → rising bit_of low (w ∷ ws) ≡ Some mask
+    → Begun bit_of low mask w ws
 begun bit_of low mask w ws e =
     let first = bind_some (bit_of w) _ mask e in
     let rest = bind_some (cond (nat_le low first.value) (rising bit_of (first.value + 1) ws) None) _ mask first.then in
@@ -68,14 +71,18 @@ begun bit_of low mask w ws e =
     record { bit = first.value; is = first.given; high = leb-true low first.value high.0; more = rest.value; rest = high.1; whole = some_same _ mask rest.then }
 
 -- the same words, from a later bit on
-later : (bit_of : List ℕ → Option ℕ) (low next mask : ℕ) (w : List ℕ) (ws : List (List ℕ)) → (b : Begun bit_of low mask w ws) → next ≤ b.bit → rising bit_of next (w ∷ ws) ≡ Some mask
+later : (bit_of : List ℕ → Option ℕ) (low next mask : ℕ) (w : List ℕ) (ws : List (List ℕ)) → (b : Begun bit_of low mask w ws) → next ≤ b.bit
+    → rising bit_of next (w ∷ ws) ≡ Some mask
 later bit_of low next mask w ws b le = rw (b.is, le-leb next b.bit le, b.rest, b.whole) refl
 
 -- the words of a mask are those of its bits
-pub turned : (bit_of : List ℕ → Option ℕ) (word_of : ℕ → List ℕ) (most : ℕ) → Spelt bit_of word_of most → (count low mask : ℕ) (words : List (List ℕ)) → most ≤ low + count → rising bit_of low words ≡ Some mask → AreBits word_of low count mask words
+pub turned : (bit_of : List ℕ → Option ℕ) (word_of : ℕ → List ℕ) (most : ℕ) → Spelt bit_of word_of most
+    → (count low mask : ℕ) (words : List (List ℕ)) → most ≤ low + count → rising bit_of low words ≡ Some mask
+    → AreBits word_of low count mask words
 turned bit_of word_of most spelt zero low mask [] le e = record { bits = []; many = refl; makes = some_same 0 mask e; spells = refl }
 turned bit_of word_of most spelt zero low mask (w ∷ ws) le e = let b = begun bit_of low mask w ws e in absurd (omega (arith, b.high, (spelt w b.bit b.is).0))
-turned bit_of word_of most spelt (suc count) low mask [] le e = skipped word_of low count mask [] (turned bit_of word_of most spelt count (low + 1) mask [] (omega arith) e)
+turned bit_of word_of most spelt (suc count) low mask [] le e =
+    skipped word_of low count mask [] (turned bit_of word_of most spelt count (low + 1) mask [] (omega arith) e)
 turned bit_of word_of most spelt (suc count) low mask (w ∷ ws) le e =
     let b = begun bit_of low mask w ws e in
     elim (eq-or-lt_of_le b.high) [

@@ -46,20 +46,24 @@ has_bits false false false true = record { first = refl; second = refl; third = 
 has_bits false false false false = record { first = refl; second = refl; third = refl; fourth = refl }
 
 -- the list of a mask is that of the bits which make it up
-four_listed : (word_of : ℕ → List ℕ) (a b c d : Bool) (mask : ℕ) → mask_of 1 (four a b c d) ≡ mask → list_word word_of 4 mask ≡ join_with_byte 44 (map word_of (set_bits 0 (four a b c d)))
+four_listed : (word_of : ℕ → List ℕ) (a b c d : Bool) (mask : ℕ) → mask_of 1 (four a b c d) ≡ mask
+    → list_word word_of 4 mask ≡ join_with_byte 44 (map word_of (set_bits 0 (four a b c d)))
 four_listed word_of a b c d mask e = let h : HasBits mask a b c d = rw (← e) (has_bits a b c d) in rw (h.first, h.second, h.third, h.fourth) refl
 
 -- the same of three bits
-three_listed : (word_of : ℕ → List ℕ) (a b c : Bool) (mask : ℕ) → mask_of 1 (a ∷ b ∷ c ∷ []) ≡ mask → list_word word_of 3 mask ≡ join_with_byte 44 (map word_of (set_bits 0 (a ∷ b ∷ c ∷ [])))
+three_listed : (word_of : ℕ → List ℕ) (a b c : Bool) (mask : ℕ) → mask_of 1 (a ∷ b ∷ c ∷ []) ≡ mask
+    → list_word word_of 3 mask ≡ join_with_byte 44 (map word_of (set_bits 0 (a ∷ b ∷ c ∷ [])))
 three_listed word_of a b c mask e = let h : HasBits mask a b c false = rw (← e) (has_bits a b c false) in rw (h.first, h.second, h.third) refl
 
 -- the same of any four bits
-four_bits : (word_of : ℕ → List ℕ) (bits : List Bool) (mask : ℕ) → length bits ≡ 4 → mask_of 1 bits ≡ mask → list_word word_of 4 mask ≡ join_with_byte 44 (map word_of (set_bits 0 bits))
+four_bits : (word_of : ℕ → List ℕ) (bits : List Bool) (mask : ℕ) → length bits ≡ 4 → mask_of 1 bits ≡ mask
+    → list_word word_of 4 mask ≡ join_with_byte 44 (map word_of (set_bits 0 bits))
 four_bits word_of (a ∷ b ∷ c ∷ d ∷ []) mask many e = four_listed word_of a b c d mask e
 four_bits word_of bits mask many e = absurd (omega arith)
 
 -- the same of any three bits
-three_bits : (word_of : ℕ → List ℕ) (bits : List Bool) (mask : ℕ) → length bits ≡ 3 → mask_of 1 bits ≡ mask → list_word word_of 3 mask ≡ join_with_byte 44 (map word_of (set_bits 0 bits))
+three_bits : (word_of : ℕ → List ℕ) (bits : List Bool) (mask : ℕ) → length bits ≡ 3 → mask_of 1 bits ≡ mask
+    → list_word word_of 3 mask ≡ join_with_byte 44 (map word_of (set_bits 0 bits))
 three_bits word_of (a ∷ b ∷ c ∷ []) mask many e = three_listed word_of a b c mask e
 three_bits word_of bits mask many e = absurd (omega arith)
 

@@ -16,9 +16,9 @@ use Rattle.kms_model.specs.Script.CommandLines.{Name, Names, Read, assign_words,
 use Rattle.kms_model.specs.Script.Grammar.{field_words, hex_at, int}
 use Rattle.kms_model.specs.Script.Words.{◌>>=◌, dec, dec_at, field_at, is_label, strip}
 use Rattle.kms_script.specs.Lines.{checked}
-use Rattle.kms_commands.specs.Packed.{made_words, packed_all, packed_alone}
+use Rattle.kms_words.specs.Packed.{made_words, packed_all, packed_alone}
 use Rattle.kms_script.specs.Overlong.{AddsLabels, assign_label, blank_count, has_many, label_and, label_word, labels_at, labels_made, value_label}
-use Rattle.kms_commands.proofs.Fields.{first_word, no_word, pair}
+use Rattle.kms_words.proofs.Fields.{first_word, no_word, pair}
 use Rattle.kms_script.proofs.Inverted.{bind_some, some_same}
 use Rattle.kms_script.proofs.LabelsMade.{AllAgree, assigns_agree, twice_in}
 use Rattle.kms_script.proofs.ManyFields.{request_blanks, words_blanks}
@@ -31,13 +31,6 @@ pub record LabelsSoFar (fields rest old now : List ℕ) : Type 0 where
   pub done : List (List ℕ)
   pub added : now ≡ old ++ packed_all done
   pub read : labels_at fields ≡ option_map (λ ls. done ++ ls) (labels_at rest)
-
-pub no_labels_yet : (fields old : List ℕ) → LabelsSoFar fields fields old old
-no_labels_yet fields old = record { done = []; added = sym (append-nil old); read = step (labels_at fields) }
-  where
-    step : (o : Option (List (List ℕ))) → o ≡ option_map (λ ls. [] ++ ls) o
-    step None = refl
-    step (Some ls) = refl
 
 -- the label that a word makes, or none
 pub record LabelOf (word label : List ℕ) : Type 0 where
@@ -59,7 +52,8 @@ label_of_none word e = step (assign_label word) e
     step None e = refl
     step (Some l) e = absurd cc
 
-next_label : (bytes word after : List ℕ) (l : Option (List ℕ)) → pair word after ≡ field_at bytes → assign_label word ≡ Some l → labels_at bytes ≡ option_map (label_and l) (labels_at after)
+next_label : (bytes word after : List ℕ) (l : Option (List ℕ)) → pair word after ≡ field_at bytes → assign_label word ≡ Some l
+    → labels_at bytes ≡ option_map (label_and l) (labels_at after)
 next_label bytes word after l f e = rw (first_word bytes word after f) (step (field_words after))
   where
     inner : (o : Option (List (List ℕ))) → (o >>= (λ ls. Some (label_and l ls))) ≡ option_map (label_and l) o
@@ -86,7 +80,8 @@ label_more : (done ls : List (List ℕ)) (l : Option (List ℕ)) → done ++ lab
 label_more done ls None = rw (append-nil done) refl
 label_more done ls (Some label) = sym (append_assoc done (label ∷ []) ls)
 
-pub one_label_more : (fields rest old now word after label next : List ℕ) → LabelsSoFar fields rest old now → pair word after ≡ field_at rest → Some label ≡ option_map label_word (assign_label word) → next ≡ now ++ packed_alone label
+pub one_label_more : (fields rest old now word after label next : List ℕ) → LabelsSoFar fields rest old now
+    → pair word after ≡ field_at rest → Some label ≡ option_map label_word (assign_label word) → next ≡ now ++ packed_alone label
     → LabelsSoFar fields after old next
 one_label_more fields rest old now word after label next so f is added =
     let l : LabelOf word label = label_of word label is in
@@ -105,21 +100,18 @@ one_label_more fields rest old now word after label next so f is added =
     step l None = refl
     step l (Some ls) = ap Some (label_more so.done ls l)
 
-pub no_label_there : (fields rest old now word after : List ℕ) → LabelsSoFar fields rest old now → pair word after ≡ field_at rest → None ≡ option_map label_word (assign_label word) → labels_at fields ≡ None
+pub no_label_there : (fields rest old now word after : List ℕ) → LabelsSoFar fields rest old now → pair word after ≡ field_at rest
+    → None ≡ option_map label_word (assign_label word) → labels_at fields ≡ None
 no_label_there fields rest old now word after so f e = so.read ∙ rw (bad_label rest word after f (label_of_none word e)) refl
 
-pub no_field_there : (fields rest old now : List ℕ) → LabelsSoFar fields rest old now → 1 ≤ length rest → None ≡ field_at rest → labels_at fields ≡ None
+pub no_field_there : (fields rest old now : List ℕ) → LabelsSoFar fields rest old now → 1 ≤ length rest → None ≡ field_at rest
+    → labels_at fields ≡ None
 no_field_there fields rest old now so long e = so.read ∙ rw (no_word rest long e) refl
-
-pub all_labels : (fields rest old now : List ℕ) → LabelsSoFar fields rest old now → length rest ≡ 0 → AddsLabels true (labels_at fields) old now
-all_labels fields [] old now so none =
-    let read : labels_at fields ≡ Some (so.done ++ []) = so.read in
-    subst (λ (o : Option (List (List ℕ))). AddsLabels true o old now) (sym read) (so.added ∙ ap (λ (ls : List (List ℕ)). old ++ packed_all ls) (sym (append-nil so.done)))
-all_labels fields (b ∷ rest) old now so none = absurd (omega arith)
 
 -- Labels that names make
 
-none_made : (x : List ℕ) (ns : List Name) → AllByRecursion (λ v. bytes_eq x v ≡ false) (map (λ n. n.word) ns) → list_any (bytes_eq x) (made_words ns) ≡ false
+none_made : (x : List ℕ) (ns : List Name) → AllByRecursion (λ v. bytes_eq x v ≡ false) (map (λ n. n.word) ns)
+    → list_any (bytes_eq x) (made_words ns) ≡ false
 none_made x [] all = refl
 none_made x (n ∷ ns) all = step n.is_made n.word all.0 (none_made x ns all.1)
   where
@@ -127,19 +119,22 @@ none_made x (n ∷ ns) all = step n.is_made n.word all.0 (none_made x ns all.1)
     step true w apart ih = rw (apart, ih) refl
     step false w apart ih = ih
 
-holds_step : (s m : Bool) (w x : List ℕ) (ns : List Name) → bytes_eq w x ≡ s → AllByRecursion (λ v. bytes_eq x v ≡ false) (map (λ n. n.word) ns) → was_made w ns ≡ list_any (bytes_eq w) (made_words ns)
+holds_step : (s m : Bool) (w x : List ℕ) (ns : List Name) → bytes_eq w x ≡ s
+    → AllByRecursion (λ v. bytes_eq x v ≡ false) (map (λ n. n.word) ns) → was_made w ns ≡ list_any (bytes_eq w) (made_words ns)
     → cond s m (was_made w ns) ≡ list_any (bytes_eq w) (made_words (record { word = x; is_made = m } ∷ ns))
 holds_step true true w x ns e all ih = rw e refl
 holds_step false true w x ns e all ih = rw e ih
 holds_step true false w x ns e all ih = let same : w ≡ x = (bytes_eq-Decides w x).0 e in rw same (sym (none_made x ns all))
 holds_step false false w x ns e all ih = ih
 
-holds_made : (ns : List Name) → IsDistinct bytes_eq (map (λ n. n.word) ns) → (w : List ℕ) → was_made w ns ≡ list_any (bytes_eq w) (made_words ns)
+holds_made : (ns : List Name) → IsDistinct bytes_eq (map (λ n. n.word) ns) → (w : List ℕ)
+    → was_made w ns ≡ list_any (bytes_eq w) (made_words ns)
 unfolding IsDistinct
 holds_made [] d w = refl
 holds_made (n ∷ ns) d w = holds_step (bytes_eq w n.word) n.is_made w n.word ns refl d.0 (holds_made ns d.1 w)
 
-made_all : (x : List ℕ) (ns : List Name) → AllByRecursion (λ v. bytes_eq x v ≡ false) (map (λ n. n.word) ns) → AllByRecursion (λ v. bytes_eq x v ≡ false) (made_words ns)
+made_all : (x : List ℕ) (ns : List Name) → AllByRecursion (λ v. bytes_eq x v ≡ false) (map (λ n. n.word) ns)
+    → AllByRecursion (λ v. bytes_eq x v ≡ false) (made_words ns)
 made_all x [] all = tt
 made_all x (n ∷ ns) all = step n.is_made n.word all.0 (made_all x ns all.1)
   where
@@ -210,18 +205,22 @@ pub no_flags : (names : Names) (bytes : List ℕ) → hex_at bytes ≡ None → 
 unfolding atomic_read
 no_flags names bytes e = rw e refl
 
-pub no_user : (names : Names) (bytes : List ℕ) (flags : ℕ × List ℕ) → hex_at bytes ≡ Some flags → dec_at 18446744073709551615 flags.1 ≡ None → checked (atomic_read names bytes) ≡ Err Form
+pub no_user : (names : Names) (bytes : List ℕ) (flags : ℕ × List ℕ) → hex_at bytes ≡ Some flags → dec_at 18446744073709551615 flags.1 ≡ None
+    → checked (atomic_read names bytes) ≡ Err Form
 unfolding atomic_read
 no_user names bytes flags f e = rw (f, e) refl
 
-no_assigns : (names : Names) (ws : List (List ℕ)) → IsDistinct bytes_eq (words_in names) → labels_made ws ≡ None → assigns_read names ws ≡ None
+no_assigns : (names : Names) (ws : List (List ℕ)) → IsDistinct bytes_eq (words_in names) → labels_made ws ≡ None
+    → assigns_read names ws ≡ None
 no_assigns names ws d e = step (assigns_read names ws) (subst (λ (o : Option (List (List ℕ))). AllAgree (assigns_read names ws) names (made_words names.all) (length ws) o) e (assigns_agree ws names (made_words names.all) (holds_made names.all d)))
   where
     step : (o : Option (List Assign × Names)) → AllAgree o names (made_words names.all) (length ws) None → o ≡ None
     step None h = refl
     step (Some r) h = absurd h
 
-pub no_labels : (names : Names) (bytes : List ℕ) (flags user : ℕ × List ℕ) → IsDistinct bytes_eq (words_in names) → hex_at bytes ≡ Some flags → dec_at 18446744073709551615 flags.1 ≡ Some user → labels_at user.1 ≡ None → checked (atomic_read names bytes) ≡ Err Form
+pub no_labels : (names : Names) (bytes : List ℕ) (flags user : ℕ × List ℕ) → IsDistinct bytes_eq (words_in names)
+    → hex_at bytes ≡ Some flags → dec_at 18446744073709551615 flags.1 ≡ Some user → labels_at user.1 ≡ None
+    → checked (atomic_read names bytes) ≡ Err Form
 unfolding atomic_read
 no_labels names bytes flags user d f u e = rw (f, u) (step (field_words user.1) refl e)
   where
@@ -238,11 +237,13 @@ abbrev pub why_of : Bool → Why
 why_of true = Label
 why_of false = Limit
 
-over_step : (twice over : Bool) (c : Command) (after : Names) → after.is_twice ≡ twice → is_over c ≡ true → checked (Some (c, after)) ≡ Err (why_of twice)
+over_step : (twice over : Bool) (c : Command) (after : Names) → after.is_twice ≡ twice → is_over c ≡ true
+    → checked (Some (c, after)) ≡ Err (why_of twice)
 over_step true over c after t o = rw t refl
 over_step false over c after t o = rw (t, o) refl
 
-pub many_fault : (names : Names) (bytes : List ℕ) (flags user : ℕ × List ℕ) (labels : List (List ℕ)) → names.is_twice ≡ false → IsDistinct bytes_eq (words_in names) → has_many bytes ≡ true
+pub many_fault : (names : Names) (bytes : List ℕ) (flags user : ℕ × List ℕ) (labels : List (List ℕ)) → names.is_twice ≡ false
+    → IsDistinct bytes_eq (words_in names) → has_many bytes ≡ true
     → hex_at bytes ≡ Some flags → dec_at 18446744073709551615 flags.1 ≡ Some user → labels_at user.1 ≡ Some labels
     → checked (atomic_read names bytes) ≡ Err (why_of (twice_in (made_words names.all) labels))
 unfolding atomic_read
@@ -277,8 +278,10 @@ decided false false numbers d o = absurd (clash (d.1 o))
     clash : false ≡ true → ⊥
     clash e = cc
 
-pub many_decided : (names : Names) (bytes numbers : List ℕ) (flags user : ℕ × List ℕ) (o : Option (List (List ℕ))) (r : Bool) → names.is_twice ≡ false → IsDistinct bytes_eq (words_in names) → has_many bytes ≡ true
-    → hex_at bytes ≡ Some flags → dec_at 18446744073709551615 flags.1 ≡ Some user → labels_at user.1 ≡ o → AddsLabels true o (packed_all (made_words names.all)) numbers → Decides r (IsDistinct nat_eq numbers)
+pub many_decided : (names : Names) (bytes numbers : List ℕ) (flags user : ℕ × List ℕ) (o : Option (List (List ℕ))) (r : Bool)
+    → names.is_twice ≡ false → IsDistinct bytes_eq (words_in names) → has_many bytes ≡ true
+    → hex_at bytes ≡ Some flags → dec_at 18446744073709551615 flags.1 ≡ Some user → labels_at user.1 ≡ o
+    → AddsLabels true o (packed_all (made_words names.all)) numbers → Decides r (IsDistinct nat_eq numbers)
     → checked (atomic_read names bytes) ≡ Err (why_of (not r))
 many_decided names bytes numbers flags user None r once d many f u e added decides = absurd added
 many_decided names bytes numbers flags user (Some labels) r once d many f u e added decides =

@@ -27,7 +27,8 @@ blanks_step b bs = step (b == 32) bs refl
         none_more : (n : ℕ) → n ≡ 0 + n
         none_more n = omega arith
 
-rest_step : (t : Bool) (b : ℕ) (bs : List ℕ) → (b == 32) ≡ t → blank_count bs ≡ blank_count (from 32 bs) → blank_count (b ∷ bs) ≡ blank_count (cond t (b ∷ bs) (from 32 bs))
+rest_step : (t : Bool) (b : ℕ) (bs : List ℕ) → (b == 32) ≡ t → blank_count bs ≡ blank_count (from 32 bs)
+    → blank_count (b ∷ bs) ≡ blank_count (cond t (b ∷ bs) (from 32 bs))
 rest_step true b bs e ih = refl
 rest_step false b bs e ih = blanks_step b bs ∙ rw e (ih_more (blank_count bs) (blank_count (from 32 bs)) ih)
   where
@@ -51,7 +52,8 @@ field_blanks (b ∷ bs) f e =
 onto_length : (b : ℕ) (w : List ℕ) (ws : List (List ℕ)) → length (onto_first b (w ∷ ws)) ≡ length (w ∷ ws)
 onto_length b w ws = refl
 
-parted_step : (t : Bool) (b : ℕ) (bs : List ℕ) → (b == 32) ≡ t → length (parted 32 bs) ≡ 1 + blank_count bs → length (cond t ([] ∷ parted 32 bs) (onto_first b (parted 32 bs))) ≡ 1 + blank_count (b ∷ bs)
+parted_step : (t : Bool) (b : ℕ) (bs : List ℕ) → (b == 32) ≡ t → length (parted 32 bs) ≡ 1 + blank_count bs
+    → length (cond t ([] ∷ parted 32 bs) (onto_first b (parted 32 bs))) ≡ 1 + blank_count (b ∷ bs)
 parted_step true b bs e ih = rw (blanks_step b bs, e) (more (length (parted 32 bs)) (blank_count bs) ih)
   where
     more : (n m : ℕ) → n ≡ 1 + m → suc n ≡ 1 + (1 + m)
@@ -84,7 +86,8 @@ assigns_count (w ∷ ws) names r e =
     rw (← some_same _ r more.then) (ap suc (assigns_count ws a.value.1 more.value more.given))
 
 -- a blank before the flags, and one before the user data
-pub request_blanks : (bytes : List ℕ) (flags user : ℕ × List ℕ) → hex_at bytes ≡ Some flags → dec_at 18446744073709551615 flags.1 ≡ Some user → blank_count bytes ≡ 2 + blank_count user.1
+pub request_blanks : (bytes : List ℕ) (flags user : ℕ × List ℕ) → hex_at bytes ≡ Some flags
+    → dec_at 18446744073709551615 flags.1 ≡ Some user → blank_count bytes ≡ 2 + blank_count user.1
 unfolding dec_at
 request_blanks bytes flags user f u =
     let first = bind_some (field_at bytes) _ flags f in

@@ -28,7 +28,7 @@ use Rattle.kms_model.specs.Script.Spelling.{Spells, name_word, spelt_line, spelt
 use Rattle.kms_model.specs.Script.WellFormed.{IsFitClient, IsFitCommand, IsWellFormed, is_assign_in, is_command_in, is_property_in, is_value_in, is_word32}
 use Rattle.kms_model.specs.Script.WholeInput.{Draft, blank_draft, clients_in, clients_of, client_line, command_line, is_nil, later_line, script_in, script_line, topology_in}
 use Rattle.kms_words.specs.Printed.{fields}
-use Rattle.kms_commands.proofs.Spaced.{line-fields}
+use Rattle.kms_words.proofs.Spaced.{line-fields}
 use Rattle.kms_script.specs.ReadAnew.{IsLineOf, IsSaid, renamed, renamed_assign, renamed_prop, renamed_value}
 use Rattle.kms_script.proofs.DraftGrows.{with_client}
 use Rattle.kms_script.proofs.Inverted.{bind_some, map_some}

@@ -23,7 +23,8 @@ record Longer (shorter longer : List (List ℕ)) : Type 0 where
   tail : List (List ℕ)
   grown : longer ≡ shorter ++ tail
 
-grows_step : (t : Bool) (w : List ℕ) (n : Name) (ns : List Name) → Longer (words ns) (words (said w ns)) → Longer (words (n ∷ ns)) (words (cond t (n ∷ ns) (n ∷ said w ns)))
+grows_step : (t : Bool) (w : List ℕ) (n : Name) (ns : List Name) → Longer (words ns) (words (said w ns))
+    → Longer (words (n ∷ ns)) (words (cond t (n ∷ ns) (n ∷ said w ns)))
 grows_step true w n ns ih = record { tail = []; grown = sym (append-nil (words (n ∷ ns))) }
 grows_step false w n ns ih = record { tail = ih.tail; grown = ap (λ (vs : List (List ℕ)). n.word ∷ vs) ih.grown }
 
@@ -39,7 +40,8 @@ before_saying all w names b =
     let g : Longer (words names.all) (words (said w names.all)) = grows w names.all in
     record { more = g.tail ++ b.more; whole = b.whole ∙ ap (λ (vs : List (List ℕ)). vs ++ b.more) g.grown ∙ append_assoc (words names.all) g.tail b.more }
 
-at_step : (t : Bool) (w : List ℕ) (n : Name) (ns : List Name) (more : List (List ℕ)) → (t ≡ true → w ≡ n.word) → get_or (words (said w ns) ++ more) (position_or_len (is w) ns) [] ≡ w
+at_step : (t : Bool) (w : List ℕ) (n : Name) (ns : List Name) (more : List (List ℕ)) → (t ≡ true → w ≡ n.word)
+    → get_or (words (said w ns) ++ more) (position_or_len (is w) ns) [] ≡ w
     → get_or (words (cond t (n ∷ ns) (n ∷ said w ns)) ++ more) (cond (not t) (1 + position_or_len (is w) ns) 0) [] ≡ w
 at_step true w n ns more same ih = sym (same refl)
 at_step false w n ns more same ih = rw one-add ih

@@ -52,7 +52,8 @@ read_where_spelt bytes s e le =
     rw (le-ltb input_limit (length bytes) (omega (arith, le)), read, d.makes) refl
 
 -- the text of a script that bytes spell is read as it, where it is no more than a script may have
-pub read_where_printed : (text bytes : List ℕ) (s : Script) → text ≡ spelling s → Spells bytes s → length text ≤ script_limit → input text ≡ Ok s
+pub read_where_printed : (text bytes : List ℕ) (s : Script) → text ≡ spelling s → Spells bytes s → length text ≤ script_limit
+    → input text ≡ Ok s
 read_where_printed text bytes s is spells le =
     let same : text ≡ bytes = is ∙ one_spelling bytes s spells in
     rw same (read_where_spelt bytes s spells (rw same at le))

@@ -96,17 +96,20 @@ naming_stays f names bytes r e =
     from_bind (label_alone bytes) _ r e (λ label alone more.
     rw (← some_same _ r more) (saying_stays label names))
 
-making_one_stays : (f : ℕ → Command) (names : Names) (bytes : List ℕ) (r : Command × Names) → making_read f names bytes ≡ Some r → Stays names r
+making_one_stays : (f : ℕ → Command) (names : Names) (bytes : List ℕ) (r : Command × Names) → making_read f names bytes ≡ Some r
+    → Stays names r
 unfolding making_read
 making_one_stays f names bytes r e =
     from_bind (label_alone bytes) _ r e (λ label alone more.
     rw (← some_same _ r more) (making_stays label names))
 
-wait_stays : (names : Names) (bytes : List ℕ) (r : Command × Names) → option_map (λ u. (command.Wait, names)) (end_at bytes) ≡ Some r → Stays names r
+wait_stays : (names : Names) (bytes : List ℕ) (r : Command × Names) → option_map (λ u. (command.Wait, names)) (end_at bytes) ≡ Some r
+    → Stays names r
 wait_stays names bytes r e = let m = map_some _ (end_at bytes) r e in rw (← m.makes) refl
 
 -- by a first word that is one of several
-by_word : (names : Names) (t : Bool) (r : Command × Names) (one other : Option (Command × Names)) → (one ≡ Some r → Stays names r) → (other ≡ Some r → Stays names r) → cond t one other ≡ Some r → Stays names r
+by_word : (names : Names) (t : Bool) (r : Command × Names) (one other : Option (Command × Names)) → (one ≡ Some r → Stays names r)
+    → (other ≡ Some r → Stays names r) → cond t one other ≡ Some r → Stays names r
 by_word names t r one other here there e = elim (choice_some t one other r e) [
   | inl is ↦ here is.1
   | inr more ↦ there more
@@ -137,7 +140,8 @@ command_stays names text r e =
     (label_stays names (until 32 text) (from 32 text) r)) e
 
 -- a line that gives a command leaves the profile as it was, and it stays one that there is
-pub fit_profile : (names : Names) (text : List ℕ) (c : Command) (after : Names) → line_of names text ≡ Ok (c, after) → IsFitProfile names.profile → IsFitProfile after.profile
+pub fit_profile : (names : Names) (text : List ℕ) (c : Command) (after : Names) → line_of names text ≡ Ok (c, after)
+    → IsFitProfile names.profile → IsFitProfile after.profile
 fit_profile names text c after e fit =
     let read = form_ok (command_read names text) _ (c, after) e in
     let label = unless_ok read.value.1.is_twice Label _ (c, after) read.then in
@@ -146,18 +150,21 @@ fit_profile names text c after e fit =
     subst (λ p. IsFitProfile p) (sym same) fit
 
 -- with a command more there are as many clients
-pub as_many : (clients : List (List Command)) (has : Bool) (xs ys : List Command) → length (clients ++ clients_of has xs) ≡ length (clients ++ clients_of has ys)
+pub as_many : (clients : List (List Command)) (has : Bool) (xs ys : List Command)
+    → length (clients ++ clients_of has xs) ≡ length (clients ++ clients_of has ys)
 as_many [] true xs ys = refl
 as_many [] false xs ys = refl
 as_many (c ∷ cs) has xs ys = ap suc (as_many cs has xs ys)
 
 -- where a client's commands are not too many with one more, they are few with it
-pub few_more : (commands new : List Command) (c : Command) (t : Bool) → new ≡ commands ++ c ∷ [] → (nat_le 4096 (length commands) || t) ≡ false → length new ≤ 4096
+pub few_more : (commands new : List Command) (c : Command) (t : Bool) → new ≡ commands ++ c ∷ []
+    → (nat_le 4096 (length commands) || t) ≡ false → length new ≤ 4096
 few_more commands new c t pushed none =
     let few : length commands < 4096 = leb-false 4096 (length commands) (or_parts (nat_le 4096 (length commands)) t none).0 in
     let more = length-append commands (c ∷ []) in
     subst (λ xs. length xs ≤ 4096) (sym pushed) (omega (arith, few, more))
 
 -- with a command more that is within the limits, all are
-pub fit_more : (commands new : List Command) (c : Command) → new ≡ commands ++ c ∷ [] → All IsFitCommand commands → IsFitCommand c → All IsFitCommand new
+pub fit_more : (commands new : List Command) (c : Command) → new ≡ commands ++ c ∷ [] → All IsFitCommand commands → IsFitCommand c
+    → All IsFitCommand new
 fit_more commands new c pushed all one = subst (λ xs. All IsFitCommand xs) (sym pushed) (All-append IsFitCommand commands (c ∷ []) all (All-cons IsFitCommand c [] one (All-nil IsFitCommand)))

@@ -59,7 +59,8 @@ record IsBehind (size n : ℕ) (d last : Draft) (rows more : List Row) : Type 0 
 abbrev drafted : Draft → Result Draft Fault
 drafted d = Ok d
 
-ended_whole : (none : Bool) (n : ℕ) (d last : Draft) → cond none (Err (missing_line n)) (drafted d) ≡ drafted last → (none ≡ false) × (d ≡ last)
+ended_whole : (none : Bool) (n : ℕ) (d last : Draft) → cond none (Err (missing_line n)) (drafted d) ≡ drafted last
+    → (none ≡ false) × (d ≡ last)
 ended_whole true n d last e = absurd cc
 ended_whole false n d last e = (refl, same d last e)
   where
@@ -76,7 +77,8 @@ behind size n d last (row ∷ rows) more e =
     let later = behind size (n + 1) u.next last rows more u.then in
     record { at = later.at; same = next_line part.Schedule size d u.next n row (rows ++ more) (not_last d u.next row u.is) u.is ∙ later.same; whole = later.whole }
 
-schedule_line : (size n : ℕ) (d : Draft) (rows : List Row) → is_nil d.conns ≡ false → parts_after part.Schedule size d n (ended_row (codes "schedule") ∷ rows) ≡ with_schedule size d (steps_in (n + 1) rows)
+schedule_line : (size n : ℕ) (d : Draft) (rows : List Row) → is_nil d.conns ≡ false
+    → parts_after part.Schedule size d n (ended_row (codes "schedule") ∷ rows) ≡ with_schedule size d (steps_in (n + 1) rows)
 unfolding parts_after
 schedule_line size n d rows some = rw some refl
 

@@ -129,7 +129,8 @@ pub record IsChecker (format : Format) (bytes : List ℕ) (pattern : Pattern) : 
   pub some : nat_lt 0 n.0 ≡ true
   pub makes : Checker p.0 q.0 n.0 ≡ pattern
 
-pub checker_parts : (format : Format) (bytes : List ℕ) (pattern : Pattern) → checker_at format bytes ≡ Some pattern → IsChecker format bytes pattern
+pub checker_parts : (format : Format) (bytes : List ℕ) (pattern : Pattern) → checker_at format bytes ≡ Some pattern
+    → IsChecker format bytes pattern
 unfolding checker_at
 checker_parts format bytes pattern e =
     from_bind (pixel_at format bytes) _ pattern e (λ p first more.

@@ -15,7 +15,7 @@ use Rattle.std.proofs.lemmas.Map.Keys.{IsDistinct-IsPermutation}
 use Rattle.std.proofs.lemmas.Slice.Eq.{bytes_eq-Decides}
 use Rattle.kms_model.specs.Script.Words.{is_label, is_label_rest, is_letter}
 use Rattle.kms_model.proofs.Facts.{neither}
-use Rattle.kms_commands.specs.Packed.{packed, packed_all, packed_alone}
+use Rattle.kms_words.specs.Packed.{packed, packed_all, packed_alone}
 use Rattle.kms_script.specs.Overlong.{begins_with, are_rising}
 use Rattle.kms_script.proofs.LabelsMade.{twice_in}
 
@@ -142,18 +142,18 @@ packed_apart v w lv lw apart = step (nat_eq (packed v) (packed w)) refl
 abbrev numbers_with : Bool → List ℕ → List ℕ → List ℕ
 numbers_with t w ns = cond t (packed w ∷ []) [] ++ ns
 
-first_numbers : (w : List ℕ) (ws : List (List ℕ)) → packed_all (w ∷ ws) ≡ packed_alone w ++ packed_all ws
-first_numbers w ws = refl
-
-all_apart_step : (t : Bool) (v w : List ℕ) (ns : List ℕ) → is_label w ≡ t → is_label v ≡ true → bytes_eq v w ≡ false → AllByRecursion (λ m. nat_eq (packed v) m ≡ false) ns → AllByRecursion (λ m. nat_eq (packed v) m ≡ false) (numbers_with t w ns)
+all_apart_step : (t : Bool) (v w : List ℕ) (ns : List ℕ) → is_label w ≡ t → is_label v ≡ true → bytes_eq v w ≡ false
+    → AllByRecursion (λ m. nat_eq (packed v) m ≡ false) ns → AllByRecursion (λ m. nat_eq (packed v) m ≡ false) (numbers_with t w ns)
 all_apart_step true v w ns e label apart all = (packed_apart v w label e apart, all)
 all_apart_step false v w ns e label apart all = all
 
-all_apart : (v : List ℕ) (ws : List (List ℕ)) → is_label v ≡ true → AllByRecursion (λ w. bytes_eq v w ≡ false) ws → AllByRecursion (λ m. nat_eq (packed v) m ≡ false) (packed_all ws)
+all_apart : (v : List ℕ) (ws : List (List ℕ)) → is_label v ≡ true → AllByRecursion (λ w. bytes_eq v w ≡ false) ws
+    → AllByRecursion (λ m. nat_eq (packed v) m ≡ false) (packed_all ws)
 all_apart v [] label all = tt
 all_apart v (w ∷ ws) label all = all_apart_step (is_label w) v w (packed_all ws) refl label all.0 (all_apart v ws label all.1)
 
-distinct_step : (t : Bool) (w : List ℕ) (ws : List (List ℕ)) → is_label w ≡ t → AllByRecursion (λ v. bytes_eq w v ≡ false) ws → IsDistinct nat_eq (packed_all ws) → IsDistinct nat_eq (numbers_with t w (packed_all ws))
+distinct_step : (t : Bool) (w : List ℕ) (ws : List (List ℕ)) → is_label w ≡ t → AllByRecursion (λ v. bytes_eq w v ≡ false) ws
+    → IsDistinct nat_eq (packed_all ws) → IsDistinct nat_eq (numbers_with t w (packed_all ws))
 unfolding IsDistinct
 distinct_step true w ws e all d = (all_apart w ws e all, d)
 distinct_step false w ws e all d = d
@@ -176,7 +176,8 @@ tail_distinct [] ns d = d
 tail_distinct (m ∷ ms) ns d = tail_distinct ms ns d.1
 
 -- a label among words comes twice where it comes once more
-clash_step : (t : Bool) (l w : List ℕ) (ws : List (List ℕ)) (rest : List ℕ) → bytes_eq l w ≡ t → is_label l ≡ true → (list_any (bytes_eq l) ws ≡ true → IsDistinct nat_eq (packed_all ws ++ packed l ∷ rest) → ⊥)
+clash_step : (t : Bool) (l w : List ℕ) (ws : List (List ℕ)) (rest : List ℕ) → bytes_eq l w ≡ t → is_label l ≡ true
+    → (list_any (bytes_eq l) ws ≡ true → IsDistinct nat_eq (packed_all ws ++ packed l ∷ rest) → ⊥)
     → (t || list_any (bytes_eq l) ws) ≡ true → IsDistinct nat_eq (packed_alone w ++ packed_all ws ++ packed l ∷ rest) → ⊥
 unfolding IsDistinct
 clash_step true l w ws rest e label ih any d =
@@ -187,7 +188,8 @@ clash_step true l w ws rest e label ih any d =
 clash_step false l w ws rest e label ih any d =
     ih any (tail_distinct (packed_alone w) (packed_all ws ++ packed l ∷ rest) (subst (λ (ns : List ℕ). IsDistinct nat_eq ns) (append_assoc (packed_alone w) (packed_all ws) (packed l ∷ rest)) d))
 
-clash : (l : List ℕ) (ws : List (List ℕ)) (rest : List ℕ) → is_label l ≡ true → list_any (bytes_eq l) ws ≡ true → IsDistinct nat_eq (packed_all ws ++ packed l ∷ rest) → ⊥
+clash : (l : List ℕ) (ws : List (List ℕ)) (rest : List ℕ) → is_label l ≡ true → list_any (bytes_eq l) ws ≡ true
+    → IsDistinct nat_eq (packed_all ws ++ packed l ∷ rest) → ⊥
 clash l [] rest label any d = absurd (none any)
   where
     none : false ≡ true → ⊥
@@ -196,13 +198,16 @@ clash l (w ∷ ws) rest label any d = clash_step (bytes_eq l w) l w ws rest refl
 
 pub numbers_append : (vs ws : List (List ℕ)) → packed_all (vs ++ ws) ≡ packed_all vs ++ packed_all ws
 numbers_append [] ws = refl
-numbers_append (v ∷ vs) ws = ap (λ (ns : List ℕ). packed_alone v ++ ns) (numbers_append vs ws) ∙ sym (append_assoc (packed_alone v) (packed_all vs) (packed_all ws))
+numbers_append (v ∷ vs) ws =
+    ap (λ (ns : List ℕ). packed_alone v ++ ns) (numbers_append vs ws) ∙ sym (append_assoc (packed_alone v) (packed_all vs) (packed_all ws))
 
-all_last : (v l : List ℕ) (ws : List (List ℕ)) → AllByRecursion (λ w. bytes_eq v w ≡ false) ws → bytes_eq v l ≡ false → AllByRecursion (λ w. bytes_eq v w ≡ false) (ws ++ l ∷ [])
+all_last : (v l : List ℕ) (ws : List (List ℕ)) → AllByRecursion (λ w. bytes_eq v w ≡ false) ws → bytes_eq v l ≡ false
+    → AllByRecursion (λ w. bytes_eq v w ≡ false) (ws ++ l ∷ [])
 all_last v l [] all e = (e, tt)
 all_last v l (w ∷ ws) all e = (all.0, all_last v l ws all.1 e)
 
-distinct_last : (l : List ℕ) (ws : List (List ℕ)) → list_any (bytes_eq l) ws ≡ false → IsDistinct bytes_eq ws → IsDistinct bytes_eq (ws ++ l ∷ [])
+distinct_last : (l : List ℕ) (ws : List (List ℕ)) → list_any (bytes_eq l) ws ≡ false → IsDistinct bytes_eq ws
+    → IsDistinct bytes_eq (ws ++ l ∷ [])
 unfolding IsDistinct
 distinct_last l [] none d = (tt, tt)
 distinct_last l (w ∷ ws) none d =
@@ -214,7 +219,8 @@ abbrev pub OnceOrTwice : Bool → List ℕ → Type 0
 OnceOrTwice true ns = IsDistinct nat_eq ns → ⊥
 OnceOrTwice false ns = IsDistinct nat_eq ns
 
-once_step : (t : Bool) (seen : List (List ℕ)) (label : List ℕ) (labels : List (List ℕ)) → list_any (bytes_eq label) seen ≡ t → IsDistinct bytes_eq seen → is_label label ≡ true
+once_step : (t : Bool) (seen : List (List ℕ)) (label : List ℕ) (labels : List (List ℕ)) → list_any (bytes_eq label) seen ≡ t
+    → IsDistinct bytes_eq seen → is_label label ≡ true
     → (IsDistinct bytes_eq (seen ++ label ∷ []) → OnceOrTwice (twice_in (seen ++ label ∷ []) labels) (packed_all (seen ++ label ∷ []) ++ packed_all labels))
     → OnceOrTwice (t || twice_in (seen ++ label ∷ []) labels) (packed_all seen ++ (packed label ∷ packed_all labels))
 once_step true seen label labels e d is ih = clash label seen (packed_all labels) is e
@@ -224,7 +230,8 @@ once_step false seen label labels e d is ih =
     ap (λ (ns : List ℕ). ns ++ packed_all labels) (numbers_append seen (label ∷ []) ∙ ap (λ (ns : List ℕ). packed_all seen ++ (ns ++ [])) alone) ∙ append_assoc (packed_all seen) (packed label ∷ []) (packed_all labels) in
     subst (λ (ns : List ℕ). OnceOrTwice (twice_in (seen ++ label ∷ []) labels) ns) whole (ih (distinct_last label seen e d))
 
-pub once_or_twice : (labels seen : List (List ℕ)) → IsDistinct bytes_eq seen → AllByRecursion (λ l. is_label l ≡ true) labels → OnceOrTwice (twice_in seen labels) (packed_all seen ++ packed_all labels)
+pub once_or_twice : (labels seen : List (List ℕ)) → IsDistinct bytes_eq seen → AllByRecursion (λ l. is_label l ≡ true) labels
+    → OnceOrTwice (twice_in seen labels) (packed_all seen ++ packed_all labels)
 once_or_twice [] seen d all = subst (λ (ns : List ℕ). IsDistinct nat_eq ns) (sym (nothing (packed_all seen))) (packed_distinct seen d)
   where
     nothing : (ns : List ℕ) → ns ++ [] ≡ ns

@@ -13,7 +13,7 @@ use Rattle.kms_model.specs.Script.CommandLines.{Names, assigns_read, atomic_read
 use Rattle.kms_model.specs.Script.Spelling.{assign_word, command_words, hex_word}
 use Rattle.kms_model.specs.Script.WellFormed.{is_assign_in, is_word32}
 use Rattle.kms_words.specs.Printed.{fields}
-use Rattle.kms_commands.proofs.Spaced.{line-fields}
+use Rattle.kms_words.proofs.Spaced.{line-fields}
 use Rattle.kms_script.specs.ReadAnew.{IsLineOf, IsReadBack, RequestsAreReadBack, renamed_assign}
 use Rattle.kms_script.proofs.Cutting.{field_of, is_inner, number_of, words_of_fields}
 use Rattle.kms_script.proofs.HexBack.{hex_inner, hex_read}

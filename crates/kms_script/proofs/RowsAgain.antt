@@ -19,7 +19,8 @@ ended_row text = record { text = text; is_ended = true }
 no_feed : (b : ℕ) → is_printable b ≡ true → (b == 10) ≡ false
 no_feed b p = grind (arith, nat_tests)
 
-byte_more : (t : Bool) (b : ℕ) (bs : List ℕ) (rows : List Row) (all : List Row) → t ≡ false → rows ≡ ended_row bs ∷ all → cond t (ended_row [] ∷ rows) (before_rows b rows) ≡ ended_row (b ∷ bs) ∷ all
+byte_more : (t : Bool) (b : ℕ) (bs : List ℕ) (rows : List Row) (all : List Row) → t ≡ false → rows ≡ ended_row bs ∷ all
+    → cond t (ended_row [] ∷ rows) (before_rows b rows) ≡ ended_row (b ∷ bs) ∷ all
 byte_more true b bs rows all e is = absurd cc
 byte_more false b bs rows all e is = rw is refl
 
@@ -35,7 +36,8 @@ is_ended_row : (row : Row) → row.is_ended ≡ true → ended_row row.text ≡ 
 is_ended_row row e = ap (λ (t : Bool). record { text = row.text; is_ended = t }) (sym e)
 
 -- lines that spell a script, and what follows them
-pub rows_again : (d last : Draft) (rows : List Row) (more : List ℕ) → spelt_lines d rows ≡ Some last → rows_of (flat_map ended_text rows ++ more) ≡ rows ++ rows_of more
+pub rows_again : (d last : Draft) (rows : List Row) (more : List ℕ) → spelt_lines d rows ≡ Some last
+    → rows_of (flat_map ended_text rows ++ more) ≡ rows ++ rows_of more
 rows_again d last [] more e = refl
 rows_again d last (row ∷ rows) more e =
     let b = bind_some (spelt_line d row) _ last e in

@@ -52,10 +52,12 @@ pub record Reaches (d last : Draft) (rows : List Row) : Type 0 where
 
 -- a whole draft, with no line behind it
 no_rows : (d : Draft) → IsInOrder d → is_nil d.conns ≡ false → Reaches d d []
-no_rows d o some = record { ordered = o; some = some; ended = refl; spelt = λ all b. record { begins = b; grown = append-nil (draft_text all d) } }
+no_rows d o some =
+    record { ordered = o; some = some; ended = refl; spelt = λ all b. record { begins = b; grown = append-nil (draft_text all d) } }
 
 -- a line, and the lines behind it
-first_row : (d next last : Draft) (row : Row) (rows : List Row) → row.is_ended ≡ true → Follows d next row.text → Reaches next last rows → Reaches d last (row ∷ rows)
+first_row : (d next last : Draft) (row : Row) (rows : List Row) → row.is_ended ≡ true → Follows d next row.text → Reaches next last rows
+    → Reaches d last (row ∷ rows)
 first_row d next last row rows ended f r = record {
   ordered = r.ordered;
   some = r.some;
@@ -77,7 +79,8 @@ rows_reach d last (row ∷ rows) o e =
 
 -- what no line spells is in order
 blank_ordered : IsInOrder blank_draft
-blank_ordered = record { crtcs = omega arith; planes = λ lt. refl; conns = λ lt. refl; late_client = λ nil. refl; first_client = λ none. refl }
+blank_ordered =
+    record { crtcs = omega arith; planes = λ lt. refl; conns = λ lt. refl; late_client = λ nil. refl; first_client = λ none. refl }
 
 -- a device with connectors has its first two lines
 whole_head : (d : Draft) → IsInOrder d → is_nil d.conns ≡ false → 2 ≤ d.head
@@ -87,7 +90,8 @@ whole_head d o some = elim (cases_lt d.head 2) [
 ]
 
 -- the lines of a script are its text
-pub rows_are_text : (last : Draft) (rows : List Row) → spelt_lines blank_draft rows ≡ Some last → (all_ended rows ≡ true) × (flat_map ended_text rows ≡ spelling (script_in last))
+pub rows_are_text : (last : Draft) (rows : List Row) → spelt_lines blank_draft rows ≡ Some last
+    → (all_ended rows ≡ true) × (flat_map ended_text rows ≡ spelling (script_in last))
 rows_are_text last rows e =
     let r = rows_reach blank_draft last rows blank_ordered e in
     let s = r.spelt (words_in last.names) (record { more = []; whole = sym (append-nil (words_in last.names)) }) in

@@ -42,7 +42,8 @@ record IsStepRow (row : Row) (step : Step) : Type 0 where
   ended : row.is_ended ≡ true
   read : step_read row.text ≡ Some step
 
-no_faults : (bytes cut : Bool) (one other : Fault) (r : Result Step Fault) (step : Step) → cond bytes (Err one) (cond cut (Err other) r) ≡ Ok step → (cut ≡ false) × (r ≡ Ok step)
+no_faults : (bytes cut : Bool) (one other : Fault) (r : Result Step Fault) (step : Step)
+    → cond bytes (Err one) (cond cut (Err other) r) ≡ Ok step → (cut ≡ false) × (r ≡ Ok step)
 no_faults true cut one other r step e = absurd cc
 no_faults false true one other r step e = absurd cc
 no_faults false false one other r step e = (refl, e)
@@ -67,7 +68,8 @@ record HasStep (r : Result Step Fault) (q : Result (List Step) Fault) (steps : L
   are : step ∷ later ≡ steps
 
 has_step : (r : Result Step Fault) (q : Result (List Step) Fault) (steps : List Step) → with_step r q ≡ Ok steps → HasStep r q steps
-has_step (Ok step) (Ok later) steps e = record { step = step; later = later; first = refl; rest = refl; are = same_steps (step ∷ later) steps e }
+has_step (Ok step) (Ok later) steps e =
+    record { step = step; later = later; first = refl; rest = refl; are = same_steps (step ∷ later) steps e }
 has_step (Ok step) (Err fault) steps e = absurd cc
 has_step (Err fault) q steps e = absurd cc
 
@@ -89,11 +91,9 @@ steps_spelt n (row ∷ rows) steps e =
       text = rw (line, later.text) (ap (flat_map step_line) h.are);
     }
 
-abbrev given : Parts → Result Parts Fault
-given x = Ok x
-
 steps_given : (size : ℕ) (d : Draft) (r : Result (List Step) Fault) (x : Parts) → with_schedule size d r ≡ Ok x → r ≡ Ok x.steps
-steps_given size d (Ok steps) x e = ap (λ (y : Parts). read_steps y.steps) (same_parts (record { script = script_in d; steps = steps; rest = size }) x e)
+steps_given size d (Ok steps) x e =
+    ap (λ (y : Parts). read_steps y.steps) (same_parts (record { script = script_in d; steps = steps; rest = size }) x e)
 steps_given size d (Err fault) x e = absurd cc
 
 -- the word `schedule` is the line that ends the script
@@ -119,6 +119,7 @@ schedule_text bytes x e =
         sym (rows_spell bytes ended) ∙ ap (flat_map ended_text) end.are ∙ flat_map-append ended_text front (end.row ∷ end.more) ∙ rw (t.text, first, steps.text) refl
 
 -- what was read of an input with a schedule
-pub read_text : (p : Part) (bytes : List ℕ) (r : Result Parsed ParseError) → Gives parts_in r (input_of p bytes) → p ≡ part.Schedule → IfOk r (λ x. IsScheduleText bytes x.script x.steps)
+pub read_text : (p : Part) (bytes : List ℕ) (r : Result Parsed ParseError) → Gives parts_in r (input_of p bytes) → p ≡ part.Schedule
+    → IfOk r (λ x. IsScheduleText bytes x.script x.steps)
 read_text p bytes (Ok x) e is = schedule_text bytes (parts_in x) (subst (λ (q : Part). input_of q bytes ≡ Ok (parts_in x)) is e)
 read_text p bytes (Err error) e is = tt

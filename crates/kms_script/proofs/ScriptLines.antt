@@ -36,7 +36,8 @@ crtcs_line_follows d next text o first e =
     (second_follows d n.value text o first count.few (line_spelt (codes "crtcs") (decimal n.value ∷ []) text key.0 count.spells))
 
 -- a line of a plane
-plane_line_follows : (d next : Draft) (text : List ℕ) → IsInOrder d → 2 ≤ d.head → begins_with (codes "plane") text → plane_line d (from 32 text) ≡ Ok next → Follows d next text
+plane_line_follows : (d next : Draft) (text : List ℕ) → IsInOrder d → 2 ≤ d.head → begins_with (codes "plane") text
+    → plane_line d (from 32 text) ≡ Ok next → Follows d next text
 unfolding plane_line
 plane_line_follows d next text o late is e =
     let p = form_ok (plane_fields d.crtcs (from 32 text)) _ next e in
@@ -46,7 +47,8 @@ plane_line_follows d next text o late is e =
     (plane_follows d p.value text o late (on_from (is_nil d.conns) form.0) (line_spelt (codes "plane") (later_words p.value) text is (plane_spelt d.crtcs (from 32 text) p.value o.crtcs p.given)))
 
 -- a line of a connector
-conn_line_follows : (d next : Draft) (text : List ℕ) → IsInOrder d → 2 ≤ d.head → begins_with (codes "conn") text → conn_line d (from 32 text) ≡ Ok next → Follows d next text
+conn_line_follows : (d next : Draft) (text : List ℕ) → IsInOrder d → 2 ≤ d.head → begins_with (codes "conn") text
+    → conn_line d (from 32 text) ≡ Ok next → Follows d next text
 unfolding conn_line
 conn_line_follows d next text o late is e =
     let mask = form_ok (conn_at d.crtcs (from 32 text)) _ next e in
@@ -56,7 +58,8 @@ conn_line_follows d next text o late is e =
     (conn_follows d mask.value text o late (second_off (is_nil d.planes) d.has_client form.0) (line_spelt (codes "conn") (crtcs_word mask.value ∷ []) text is (conn_spelt d.crtcs (from 32 text) mask.value o.crtcs mask.given)))
 
 -- a line of a client
-client_line_follows : (d next : Draft) (text : List ℕ) → IsInOrder d → 2 ≤ d.head → begins_with (codes "client") text → client_line d (from 32 text) ≡ Ok next → Follows d next text
+client_line_follows : (d next : Draft) (text : List ℕ) → IsInOrder d → 2 ≤ d.head → begins_with (codes "client") text
+    → client_line d (from 32 text) ≡ Ok next → Follows d next text
 unfolding client_line
 client_line_follows d next text o late is e =
     let done = form_ok (end_at (from 32 text)) _ next e in

@@ -50,7 +50,8 @@ client_same n d fields = in_form n (end_at fields) _ _ (λ u. in_unless n _ Form
 -- a command likewise
 command_same : (n : ℕ) (d : Draft) (text : List ℕ) → command_line (resized n d) text ≡ relined n (command_line d text)
 unfolding command_line
-command_same n d text = in_form n (command_read d.names text) _ _ (λ c. in_unless n _ Form _ _ (in_unless n _ Label _ _ (in_unless n _ Limit _ _ refl)))
+command_same n d text =
+    in_form n (command_read d.names text) _ _ (λ c. in_unless n _ Form _ _ (in_unless n _ Label _ _ (in_unless n _ Limit _ _ refl)))
 
 -- a line does not look at the bytes of the lines before it
 pub line_same : (n : ℕ) (d : Draft) (text : List ℕ) → script_line (resized n d) text ≡ relined n (script_line d text)

@@ -14,7 +14,8 @@ abbrev pub all_ended : List Row → Bool
 all_ended rows = list_all (λ r. r.is_ended) rows
 
 -- a byte before the first line, or before none
-before_none : (b : ℕ) (rows : List Row) → all_ended (before_rows b rows) ≡ true → flat_map ended_text (before_rows b rows) ≡ b ∷ flat_map ended_text rows
+before_none : (b : ℕ) (rows : List Row) → all_ended (before_rows b rows) ≡ true
+    → flat_map ended_text (before_rows b rows) ≡ b ∷ flat_map ended_text rows
 before_none b [] e = absurd cc
 before_none b (r ∷ rs) e = refl
 

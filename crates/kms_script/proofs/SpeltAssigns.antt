@@ -30,41 +30,49 @@ abbrev pub prop_of : Names → List ℕ → Option ℕ → PropRef × Names
 prop_of names word o = option_map_or (λ id. (Known id, names)) o (Unknown (place word names), saying word names)
 
 -- by whether a property has the name
-prop_named : (all : List (List ℕ)) (names : Names) (word : List ℕ) (o : Option ℕ) → ((id : ℕ) → o ≡ Some id → id_word id ≡ word) → Begins (prop_of names word o).1 all → Named names all (property_word all (prop_of names word o).0) word
+prop_named : (all : List (List ℕ)) (names : Names) (word : List ℕ) (o : Option ℕ) → ((id : ℕ) → o ≡ Some id → id_word id ≡ word)
+    → Begins (prop_of names word o).1 all → Named names all (property_word all (prop_of names word o).0) word
 prop_named all names word None known b = record { begins = before_saying all word names b; same = said_word all word names b }
 prop_named all names word (Some id) known b = record { begins = b; same = known id refl }
 
 -- the property of an assignment
-pub property_named : (all : List (List ℕ)) (names : Names) (word : List ℕ) → Begins (property_read names word).1 all → Named names all (property_word all (property_read names word).0) word
+pub property_named : (all : List (List ℕ)) (names : Names) (word : List ℕ) → Begins (property_read names word).1 all
+    → Named names all (property_word all (property_read names word).0) word
 unfolding property_read
-property_named all names word b = prop_named all names word (known_property names.profile word) (λ id e. property_spelt names.profile id word e) b
+property_named all names word b =
+    prop_named all names word (known_property names.profile word) (λ id e. property_spelt names.profile id word e) b
 
 -- a value that was read of a word, with the names after it
 abbrev Valued : List (List ℕ) → Names → Value × Names → List ℕ → Type 0
 Valued all names r word = Begins r.1 all → Named names all (value_word all r.0) word
 
 -- a label behind `@`
-named_value : (all : List (List ℕ)) (names : Names) (word label : List ℕ) (r : Value × Names) → codes "@" ++ label ≡ word → (value.Named (place label names), saying label names) ≡ r → Valued all names r word
+named_value : (all : List (List ℕ)) (names : Names) (word label : List ℕ) (r : Value × Names) → codes "@" ++ label ≡ word
+    → (value.Named (place label names), saying label names) ≡ r → Valued all names r word
 named_value all names word label r e is = rw (← is) (λ b. record { begins = before_saying all label names b; same = ap (λ (w : List ℕ). codes "@" ++ w) (said_word all label names b) ∙ e })
 
 -- a label behind `+`
-new_value : (all : List (List ℕ)) (names : Names) (word label : List ℕ) (r : Value × Names) → codes "+" ++ label ≡ word → (value.New (place label names), making label names) ≡ r → Valued all names r word
+new_value : (all : List (List ℕ)) (names : Names) (word label : List ℕ) (r : Value × Names) → codes "+" ++ label ≡ word
+    → (value.New (place label names), making label names) ≡ r → Valued all names r word
 new_value all names word label r e is = rw (← is) (λ b. let s = making_says all label names b in record { begins = before_saying all label names s; same = ap (λ (w : List ℕ). codes "+" ++ w) (said_word all label names s) ∙ e })
 
 -- an index behind `crtc`
-crtc_value : (all : List (List ℕ)) (names : Names) (word digits : List ℕ) (r : Value × Names) → codes "crtc" ++ digits ≡ word → option_map (λ i. (value.Crtc i, names)) (dec 255 digits) ≡ Some r → Valued all names r word
+crtc_value : (all : List (List ℕ)) (names : Names) (word digits : List ℕ) (r : Value × Names) → codes "crtc" ++ digits ≡ word
+    → option_map (λ i. (value.Crtc i, names)) (dec 255 digits) ≡ Some r → Valued all names r word
 crtc_value all names word digits r e is =
     let m = map_some _ (dec 255 digits) r is in
     rw (← m.makes) (λ b. record { begins = b; same = ap (λ (w : List ℕ). codes "crtc" ++ w) (dec_spelt 255 m.value digits (omega arith) m.given) ∙ e })
 
 -- a number
-number_value : (all : List (List ℕ)) (names : Names) (word : List ℕ) (r : Value × Names) → option_map (λ z. (value.Num z, names)) (int word) ≡ Some r → Valued all names r word
+number_value : (all : List (List ℕ)) (names : Names) (word : List ℕ) (r : Value × Names)
+    → option_map (λ z. (value.Num z, names)) (int word) ≡ Some r → Valued all names r word
 number_value all names word r is =
     let m = map_some _ (int word) r is in
     rw (← m.makes) (λ b. record { begins = b; same = int_spelt m.value word m.given })
 
 -- the value of an assignment
-pub value_named : (all : List (List ℕ)) (names : Names) (word : List ℕ) (r : Value × Names) → value_read names word ≡ Some r → Valued all names r word
+pub value_named : (all : List (List ℕ)) (names : Names) (word : List ℕ) (r : Value × Names) → value_read names word ≡ Some r
+    → Valued all names r word
 unfolding value_read
 value_named all names word r e = elim (or_some _ (strip (codes "@") word) _ r e) [
   | inl at ↦ (let l = if_some (is_label at.value) _ r at.then in named_value all names word at.value r (strip_spelt (codes "@") word at.value at.given) (some_same _ r l.1))
@@ -92,7 +100,8 @@ words_joined kind index prop given tail until_dot from_dot word front dot rest w
     ∙ rw (rest, dot) whole)
 
 -- the words of an assignment give it back
-assign_words_spelt : (word : List ℕ) (w : Parts) → assign_words word ≡ Some w → kind_name w.0 ++ decimal w.1 ++ codes "." ++ w.2 ++ codes "=" ++ w.3 ≡ word
+assign_words_spelt : (word : List ℕ) (w : Parts) → assign_words word ≡ Some w
+    → kind_name w.0 ++ decimal w.1 ++ codes "." ++ w.2 ++ codes "=" ++ w.3 ≡ word
 unfolding assign_words
 assign_words_spelt word w e =
     let o = bind_some (object (until 46 word)) _ w e in
@@ -104,12 +113,14 @@ assign_words_spelt word w e =
     (object_spelt o.value (until 46 word) o.given) (strip_spelt (codes ".") (from 46 word) tail.value tail.given) behind (until_from 46 word))
 
 -- the property and the value as words
-assign_joined : (all : List (List ℕ)) (w : Parts) (p : PropRef) (v : Value) (word : List ℕ) → property_word all p ≡ w.2 → value_word all v ≡ w.3 → kind_name w.0 ++ decimal w.1 ++ codes "." ++ w.2 ++ codes "=" ++ w.3 ≡ word
+assign_joined : (all : List (List ℕ)) (w : Parts) (p : PropRef) (v : Value) (word : List ℕ) → property_word all p ≡ w.2
+    → value_word all v ≡ w.3 → kind_name w.0 ++ decimal w.1 ++ codes "." ++ w.2 ++ codes "=" ++ w.3 ≡ word
     → assign_word all (record { kind = w.0; index = w.1; prop = p; value = v }) ≡ word
 assign_joined all w p v word prop value whole = rw (prop, value) whole
 
 -- one assignment
-pub assign_named : (all : List (List ℕ)) (names : Names) (word : List ℕ) (r : Assign × Names) → assign_read names word ≡ Some r → Begins r.1 all → Named names all (assign_word all r.0) word
+pub assign_named : (all : List (List ℕ)) (names : Names) (word : List ℕ) (r : Assign × Names) → assign_read names word ≡ Some r
+    → Begins r.1 all → Named names all (assign_word all r.0) word
 unfolding assign_read
 assign_named all names word r e =
     let w = bind_some (assign_words word) _ r e in
@@ -124,7 +135,8 @@ front_and_more : (w v : List ℕ) (ws vs : List (List ℕ)) → w ≡ v → ws �
 front_and_more w v ws vs e f = rw (e, f) refl
 
 -- assignments in a row
-pub assigns_named : (all : List (List ℕ)) (ws : List (List ℕ)) (names : Names) (r : List Assign × Names) → assigns_read names ws ≡ Some r → Begins r.1 all → Named names all (map (assign_word all) r.0) ws
+pub assigns_named : (all : List (List ℕ)) (ws : List (List ℕ)) (names : Names) (r : List Assign × Names) → assigns_read names ws ≡ Some r
+    → Begins r.1 all → Named names all (map (assign_word all) r.0) ws
 assigns_named all [] names r e = rw (← some_same _ r e) (λ b. record { begins = b; same = refl })
 assigns_named all (w ∷ ws) names r e =
     let a = bind_some (assign_read names w) _ r e in

@@ -19,11 +19,14 @@ use Rattle.kms_script.proofs.SpeltThings.{Reads, buffer_reads, addfb_reads, mode
 use Rattle.kms_script.proofs.SpeltWords.{found, nothing_read}
 
 -- the flags, the user data and the assignments
-atomic_joined : (bytes : List ℕ) (flags user : ℕ × List ℕ) (sets words : List (List ℕ)) → sets ≡ words → 32 ∷ (hex_word flags.0 ++ flags.1) ≡ bytes → 32 ∷ (decimal user.0 ++ user.1) ≡ flags.1 → fields_to words [] ≡ user.1 → fields_to (hex_word flags.0 ∷ decimal user.0 ∷ sets) [] ≡ bytes
+atomic_joined : (bytes : List ℕ) (flags user : ℕ × List ℕ) (sets words : List (List ℕ)) → sets ≡ words
+    → 32 ∷ (hex_word flags.0 ++ flags.1) ≡ bytes → 32 ∷ (decimal user.0 ++ user.1) ≡ flags.1 → fields_to words [] ≡ user.1
+    → fields_to (hex_word flags.0 ∷ decimal user.0 ∷ sets) [] ≡ bytes
 atomic_joined bytes flags user sets words same first second rest = rw (same, rest, second) first
 
 -- a request
-atomic_reads : (all : List (List ℕ)) (names : Names) (bytes : List ℕ) (r : Command × Names) → atomic_read names bytes ≡ Some r → Begins r.1 all → Reads all names (codes "atomic") bytes r.0
+atomic_reads : (all : List (List ℕ)) (names : Names) (bytes : List ℕ) (r : Command × Names) → atomic_read names bytes ≡ Some r
+    → Begins r.1 all → Reads all names (codes "atomic") bytes r.0
 atomic_reads all names bytes r e =
     let p = request_parts names bytes r e in
     rw (← p.makes) (λ b.
@@ -36,7 +39,8 @@ atomic_reads all names bytes r e =
     })
 
 -- a wait
-wait_reads : (all : List (List ℕ)) (names : Names) (bytes : List ℕ) (r : Command × Names) → option_map (λ u. (command.Wait, names)) (end_at bytes) ≡ Some r → Begins r.1 all → Reads all names (codes "wait") bytes r.0
+wait_reads : (all : List (List ℕ)) (names : Names) (bytes : List ℕ) (r : Command × Names)
+    → option_map (λ u. (command.Wait, names)) (end_at bytes) ≡ Some r → Begins r.1 all → Reads all names (codes "wait") bytes r.0
 wait_reads all names bytes r e =
     let m = map_some _ (end_at bytes) r e in
     rw (← m.makes) (λ b. record { begins = b; words = []; known = refl; fields = end_spelt bytes m.value m.given })
@@ -44,7 +48,8 @@ wait_reads all names bytes r e =
 -- A line's first word says which command it is
 
 -- what is read by a first word that is one of several
-by_word : (all : List (List ℕ)) (names : Names) (keyword k bytes : List ℕ) (r : Command × Names) (one other : Option (Command × Names)) → (one ≡ Some r → Reads all names k bytes r.0) → (other ≡ Some r → Reads all names keyword bytes r.0)
+by_word : (all : List (List ℕ)) (names : Names) (keyword k bytes : List ℕ) (r : Command × Names) (one other : Option (Command × Names))
+    → (one ≡ Some r → Reads all names k bytes r.0) → (other ≡ Some r → Reads all names keyword bytes r.0)
     → cond (bytes_eq keyword k) one other ≡ Some r → Reads all names keyword bytes r.0
 by_word all names keyword k bytes r one other here there e = elim (choice_some (bytes_eq keyword k) one other r e) [
   | inl is ↦ rw (found keyword k is.0) (here is.1)
@@ -52,7 +57,8 @@ by_word all names keyword k bytes r one other here there e = elim (choice_some (
 ]
 
 -- a command that makes a thing, but no fence
-thing_reads : (all : List (List ℕ)) (names : Names) (keyword bytes : List ℕ) (r : Command × Names) → Begins r.1 all → thing_read names keyword bytes ≡ Some r → Reads all names keyword bytes r.0
+thing_reads : (all : List (List ℕ)) (names : Names) (keyword bytes : List ℕ) (r : Command × Names) → Begins r.1 all
+    → thing_read names keyword bytes ≡ Some r → Reads all names keyword bytes r.0
 unfolding thing_read
 thing_reads all names keyword bytes r b e =
     by_word all names keyword (codes "buffer") bytes r _ _ (λ h. buffer_reads all names bytes r h b)
@@ -61,7 +67,8 @@ thing_reads all names keyword bytes r b e =
     (by_word all names keyword (codes "blob") bytes r _ None (λ h. blob_reads all names bytes r h b) (nothing_read r)))) e
 
 -- a command with one label
-label_reads : (all : List (List ℕ)) (names : Names) (keyword bytes : List ℕ) (r : Command × Names) → Begins r.1 all → label_read names keyword bytes ≡ Some r → Reads all names keyword bytes r.0
+label_reads : (all : List (List ℕ)) (names : Names) (keyword bytes : List ℕ) (r : Command × Names) → Begins r.1 all
+    → label_read names keyword bytes ≡ Some r → Reads all names keyword bytes r.0
 unfolding label_read
 label_reads all names keyword bytes r b e =
     by_word all names keyword (codes "destroy") bytes r _ _ (λ h. naming_reads all (codes "destroy") command.Destroy (λ n. refl) names bytes r h b)
@@ -71,7 +78,8 @@ label_reads all names keyword bytes r b e =
     (thing_reads all names keyword bytes r b)))) e
 
 -- any command
-command_reads : (all : List (List ℕ)) (names : Names) (text : List ℕ) (r : Command × Names) → Begins r.1 all → command_read names text ≡ Some r → Reads all names (until 32 text) (from 32 text) r.0
+command_reads : (all : List (List ℕ)) (names : Names) (text : List ℕ) (r : Command × Names) → Begins r.1 all
+    → command_read names text ≡ Some r → Reads all names (until 32 text) (from 32 text) r.0
 unfolding command_read
 command_reads all names text r b e =
     let keyword : List ℕ = until 32 text in
@@ -81,7 +89,8 @@ command_reads all names text r b e =
     (label_reads all names keyword bytes r b)) e
 
 -- a first word and its fields as a line
-line_of : (k bytes text : List ℕ) (words : List (List ℕ)) → fields_to words [] ≡ bytes → k ++ bytes ≡ text → line (k ∷ words) ≡ text ++ 10 ∷ []
+line_of : (k bytes text : List ℕ) (words : List (List ℕ)) → fields_to words [] ≡ bytes → k ++ bytes ≡ text
+    → line (k ∷ words) ≡ text ++ 10 ∷ []
 line_of k bytes text words fields whole =
     line_fields k words
     ∙ ap (λ (bs : List ℕ). k ++ bs) (sym (fields_end words [] (10 ∷ [])) ∙ ap (λ (bs : List ℕ). bs ++ 10 ∷ []) fields)
@@ -89,11 +98,13 @@ line_of k bytes text words fields whole =
     ∙ ap (λ (bs : List ℕ). bs ++ 10 ∷ []) whole
 
 -- a command's line is written as it was read
-pub command_spelt : (all : List (List ℕ)) (before after : Names) (text : List ℕ) (c : Command) → command_read before text ≡ Some (c, after) → Begins after all → line (command_words all c) ≡ text ++ 10 ∷ []
+pub command_spelt : (all : List (List ℕ)) (before after : Names) (text : List ℕ) (c : Command) → command_read before text ≡ Some (c, after)
+    → Begins after all → line (command_words all c) ≡ text ++ 10 ∷ []
 command_spelt all before after text c e b =
     let r : Reads all before (until 32 text) (from 32 text) c = command_reads all before text (c, after) b e in
     rw r.known (line_of (until 32 text) (from 32 text) text r.words r.fields (until_from 32 text))
 
 -- names before a command's line are a front of a script's where those after it are
-pub names_begin : (all : List (List ℕ)) (before after : Names) (text : List ℕ) (c : Command) → command_read before text ≡ Some (c, after) → Begins after all → Begins before all
+pub names_begin : (all : List (List ℕ)) (before after : Names) (text : List ℕ) (c : Command) → command_read before text ≡ Some (c, after)
+    → Begins after all → Begins before all
 names_begin all before after text c e b = let r : Reads all before (until 32 text) (from 32 text) c = command_reads all before text (c, after) b e in r.begins

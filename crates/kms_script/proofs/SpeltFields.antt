@@ -19,14 +19,16 @@ use Rattle.kms_script.proofs.SpeltWords.{format_spelt}
 
 -- a field whose word stands for a value that is written as the word
 at_spelt : {A : Type 0} (g : List ℕ → Option A) (spell : A → List ℕ) → ((x : A) (word : List ℕ) → g word ≡ Some x → spell x ≡ word)
-    → (bytes : List ℕ) (r : A × List ℕ) → (field_at bytes >>= (λ f. g f.0 >>= (λ x. Some (x, f.1)))) ≡ Some r → 32 ∷ (spell r.0 ++ r.1) ≡ bytes
+    → (bytes : List ℕ) (r : A × List ℕ) → (field_at bytes >>= (λ f. g f.0 >>= (λ x. Some (x, f.1)))) ≡ Some r
+    → 32 ∷ (spell r.0 ++ r.1) ≡ bytes
 at_spelt g spell spelt bytes r e =
     let f = bind_some (field_at bytes) _ r e in
     let x = bind_some (g f.value.0) _ r f.then in
     rw (← some_same _ r x.then, spelt x.value f.value.0 x.given) (field_spelt bytes f.value f.given)
 
 -- a number
-pub dec_at_spelt : (most : ℕ) (bytes : List ℕ) (r : ℕ × List ℕ) → most < 2 ^ 64 → dec_at most bytes ≡ Some r → 32 ∷ (decimal r.0 ++ r.1) ≡ bytes
+pub dec_at_spelt : (most : ℕ) (bytes : List ℕ) (r : ℕ × List ℕ) → most < 2 ^ 64 → dec_at most bytes ≡ Some r
+    → 32 ∷ (decimal r.0 ++ r.1) ≡ bytes
 unfolding dec_at
 dec_at_spelt most bytes r small e = at_spelt (dec most) decimal (λ n word. dec_spelt most n word small) bytes r e
 
@@ -35,7 +37,8 @@ pub hex_at_spelt : (bytes : List ℕ) (r : ℕ × List ℕ) → hex_at bytes ≡
 hex_at_spelt bytes r e = at_spelt hex hex_word hex_spelt bytes r e
 
 -- the word of a pixel_number
-pub pixel_at_spelt : (format : Format) (bytes : List ℕ) (r : ℕ × List ℕ) → pixel_at format bytes ≡ Some r → 32 ∷ (pixel_word format r.0 ++ r.1) ≡ bytes
+pub pixel_at_spelt : (format : Format) (bytes : List ℕ) (r : ℕ × List ℕ) → pixel_at format bytes ≡ Some r
+    → 32 ∷ (pixel_word format r.0 ++ r.1) ≡ bytes
 unfolding pixel_at
 pixel_at_spelt format bytes r e = at_spelt (pixel_number format) (pixel_word format) (pixel_spelt format) bytes r e
 
@@ -87,7 +90,8 @@ abbrev five_words : Five → List (List ℕ) → List (List ℕ)
 five_words v ws = decimal v.0 ∷ decimal v.1 ∷ decimal v.2 ∷ decimal v.3 ∷ decimal v.4 ∷ ws
 
 -- one number behind the other
-five_joined : (a b c d e : ℕ × List ℕ) (bytes : List ℕ) → 32 ∷ (decimal a.0 ++ a.1) ≡ bytes → 32 ∷ (decimal b.0 ++ b.1) ≡ a.1 → 32 ∷ (decimal c.0 ++ c.1) ≡ b.1 → 32 ∷ (decimal d.0 ++ d.1) ≡ c.1 → 32 ∷ (decimal e.0 ++ e.1) ≡ d.1
+five_joined : (a b c d e : ℕ × List ℕ) (bytes : List ℕ) → 32 ∷ (decimal a.0 ++ a.1) ≡ bytes → 32 ∷ (decimal b.0 ++ b.1) ≡ a.1
+    → 32 ∷ (decimal c.0 ++ c.1) ≡ b.1 → 32 ∷ (decimal d.0 ++ d.1) ≡ c.1 → 32 ∷ (decimal e.0 ++ e.1) ≡ d.1
     → fields_to (five_words (a.0, b.0, c.0, d.0, e.0, e.1) []) e.1 ≡ bytes
 five_joined a b c d e bytes first second third fourth fifth = rw (fifth, fourth, third, second) first
 
@@ -103,11 +107,13 @@ five_spelt bytes v h =
     (dec_at_spelt 65535 p.d.1 p.e (omega arith) p.fifth))
 
 -- fields behind five
-then_five : (v : Five) (ws : List (List ℕ)) (after bytes : List ℕ) → fields_to (five_words v []) v.5 ≡ bytes → fields_to ws after ≡ v.5 → fields_to (five_words v ws) after ≡ bytes
+then_five : (v : Five) (ws : List (List ℕ)) (after bytes : List ℕ) → fields_to (five_words v []) v.5 ≡ bytes → fields_to ws after ≡ v.5
+    → fields_to (five_words v ws) after ≡ bytes
 then_five v ws after bytes first more = rw (← first, ← more) refl
 
 -- all numbers of a mode and its name
-mode_joined : (clock r f k : ℕ × List ℕ) (h v : Five) (n : List ℕ × List ℕ) (bytes : List ℕ) → 32 ∷ (decimal clock.0 ++ clock.1) ≡ bytes → fields_to (five_words h []) h.5 ≡ clock.1 → fields_to (five_words v []) v.5 ≡ h.5
+mode_joined : (clock r f k : ℕ × List ℕ) (h v : Five) (n : List ℕ × List ℕ) (bytes : List ℕ) → 32 ∷ (decimal clock.0 ++ clock.1) ≡ bytes
+    → fields_to (five_words h []) h.5 ≡ clock.1 → fields_to (five_words v []) v.5 ≡ h.5
     → 32 ∷ (decimal r.0 ++ r.1) ≡ v.5 → 32 ∷ (decimal f.0 ++ f.1) ≡ r.1 → 32 ∷ (decimal k.0 ++ k.1) ≡ f.1 → 32 ∷ (until 0 n.0 ++ n.1) ≡ k.1
     → fields_to (decimal clock.0 ∷ five_words h (five_words v (decimal r.0 ∷ decimal f.0 ∷ decimal k.0 ∷ until 0 n.0 ∷ []))) n.1 ≡ bytes
 mode_joined clock r f k h v n bytes first across down rate flags kind name =

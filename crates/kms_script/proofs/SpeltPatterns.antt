@@ -17,7 +17,8 @@ use Rattle.kms_script.proofs.SpeltFields.{dec_at_spelt, pixel_at_spelt}
 use Rattle.kms_script.proofs.SpeltWords.{found}
 
 -- pixels up to the end of the line
-pixels_spelt : (format : Format) (n : ℕ) (bytes ps : List ℕ) → pixels_at format n bytes ≡ Some ps → fields_to (map (pixel_word format) ps) [] ≡ bytes
+pixels_spelt : (format : Format) (n : ℕ) (bytes ps : List ℕ) → pixels_at format n bytes ≡ Some ps
+    → fields_to (map (pixel_word format) ps) [] ≡ bytes
 pixels_spelt format zero bytes ps e = let m = map_some _ (end_at bytes) ps e in rw (← m.makes) (end_spelt bytes m.value m.given)
 pixels_spelt format (suc n) bytes ps e =
     from_bind (pixel_at format bytes) _ ps e (λ p first more.
@@ -33,7 +34,8 @@ abbrev after : List ℕ → List ℕ → List ℕ
 after k bytes = 32 ∷ (k ++ bytes)
 
 -- one colour
-solid_spelt : (format : Format) (bytes : List ℕ) (pattern : Pattern) → solid_at format bytes ≡ Some pattern → Behind (codes "solid") format bytes pattern
+solid_spelt : (format : Format) (bytes : List ℕ) (pattern : Pattern) → solid_at format bytes ≡ Some pattern
+    → Behind (codes "solid") format bytes pattern
 unfolding solid_at
 solid_spelt format bytes pattern e =
     from_bind (pixel_at format bytes) _ pattern e (λ p first more.
@@ -41,22 +43,27 @@ solid_spelt format bytes pattern e =
     rw (← some_same _ pattern more) (ap (after (codes "solid")) (rw (end_spelt p.1 u end) (pixel_at_spelt format bytes p first)))))
 
 -- two colours and the side of a square
-checker_joined : (format : Format) (p q n : ℕ × List ℕ) (bytes : List ℕ) → 32 ∷ (pixel_word format p.0 ++ p.1) ≡ bytes → 32 ∷ (pixel_word format q.0 ++ q.1) ≡ p.1 → 32 ∷ (decimal n.0 ++ n.1) ≡ q.1 → [] ≡ n.1 → Behind (codes "checker") format bytes (Checker p.0 q.0 n.0)
+checker_joined : (format : Format) (p q n : ℕ × List ℕ) (bytes : List ℕ) → 32 ∷ (pixel_word format p.0 ++ p.1) ≡ bytes
+    → 32 ∷ (pixel_word format q.0 ++ q.1) ≡ p.1 → 32 ∷ (decimal n.0 ++ n.1) ≡ q.1 → [] ≡ n.1
+    → Behind (codes "checker") format bytes (Checker p.0 q.0 n.0)
 checker_joined format p q n bytes first second side end = ap (after (codes "checker")) (rw (end, side, second) first)
 
 -- squares of two colours
-checker_spelt : (format : Format) (bytes : List ℕ) (pattern : Pattern) → checker_at format bytes ≡ Some pattern → Behind (codes "checker") format bytes pattern
+checker_spelt : (format : Format) (bytes : List ℕ) (pattern : Pattern) → checker_at format bytes ≡ Some pattern
+    → Behind (codes "checker") format bytes pattern
 checker_spelt format bytes pattern e =
     let c = checker_parts format bytes pattern e in
     rw (← c.makes)
     (checker_joined format c.p c.q c.n bytes (pixel_at_spelt format bytes c.p c.first) (pixel_at_spelt format c.p.1 c.q c.second) (dec_at_spelt 4096 c.q.1 c.n (omega arith) c.side) (end_spelt c.n.1 tt c.end))
 
 -- a ramp
-ramp_spelt : (format : Format) (bytes : List ℕ) (pattern : Pattern) → ramp_at bytes ≡ Some pattern → Behind (codes "ramp") format bytes pattern
+ramp_spelt : (format : Format) (bytes : List ℕ) (pattern : Pattern) → ramp_at bytes ≡ Some pattern
+    → Behind (codes "ramp") format bytes pattern
 ramp_spelt format bytes pattern e = let m = map_some _ (end_at bytes) pattern e in rw (← m.makes) (ap (after (codes "ramp")) (end_spelt bytes m.value m.given))
 
 -- a word for each pixel
-each_spelt : (count : ℕ) (format : Format) (bytes : List ℕ) (pattern : Pattern) → each_pixel_at count format bytes ≡ Some pattern → Behind (codes "pixels") format bytes pattern
+each_spelt : (count : ℕ) (format : Format) (bytes : List ℕ) (pattern : Pattern) → each_pixel_at count format bytes ≡ Some pattern
+    → Behind (codes "pixels") format bytes pattern
 unfolding each_pixel_at
 each_spelt count format bytes pattern e =
     let read = if_some (between 1 256 count) _ pattern e in
@@ -68,7 +75,8 @@ first_is : (k word rest bytes whole : List ℕ) → word ≡ k → 32 ∷ (word 
 first_is k word rest bytes whole is front e = e ∙ rw (← is) front
 
 -- a pattern, by its first word
-pub pattern_spelt : (width height : ℕ) (format : Format) (bytes : List ℕ) (p : Pattern) → pattern_at width height format bytes ≡ Some p → fields_to (pattern_words format p) [] ≡ bytes
+pub pattern_spelt : (width height : ℕ) (format : Format) (bytes : List ℕ) (p : Pattern) → pattern_at width height format bytes ≡ Some p
+    → fields_to (pattern_words format p) [] ≡ bytes
 unfolding pattern_at
 pattern_spelt width height format bytes p e = from_bind (field_at bytes) _ p e (λ f given more.
     let front : 32 ∷ (f.0 ++ f.1) ≡ bytes = field_spelt bytes f given in

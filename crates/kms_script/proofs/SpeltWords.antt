@@ -28,7 +28,8 @@ abbrev pub found : (word known : List ℕ) → bytes_eq word known ≡ true → 
 found word known = (bytes_eq-Decides word known).0
 
 -- a format whose name is the word, or another
-format_or : (format f : Format) (word : List ℕ) (other : Option Format) → (other ≡ Some f → format_word f ≡ word) → cond (bytes_eq word (format_word format)) (Some format) other ≡ Some f → format_word f ≡ word
+format_or : (format f : Format) (word : List ℕ) (other : Option Format) → (other ≡ Some f → format_word f ≡ word)
+    → cond (bytes_eq word (format_word format)) (Some format) other ≡ Some f → format_word f ≡ word
 format_or format f word other more e = elim (choice_some (bytes_eq word (format_word format)) (Some format) other f e) [
   | inl here ↦ rw (← some_same format f here.1) (sym (found word (format_word format) here.0))
   | inr there ↦ more there
@@ -66,7 +67,8 @@ abbrev pub object_word : Kind × ℕ → List ℕ
 object_word o = kind_name o.0 ++ decimal o.1
 
 -- an object whose kind stands at the front of the word, or another
-kind_or : (kind : Kind) (o : Kind × ℕ) (word : List ℕ) (other : Option (Kind × ℕ)) → (other ≡ Some o → object_word o ≡ word) → option_map_or (indexed kind) (strip (kind_name kind) word) other ≡ Some o → object_word o ≡ word
+kind_or : (kind : Kind) (o : Kind × ℕ) (word : List ℕ) (other : Option (Kind × ℕ)) → (other ≡ Some o → object_word o ≡ word)
+    → option_map_or (indexed kind) (strip (kind_name kind) word) other ≡ Some o → object_word o ≡ word
 kind_or kind o word other more e = elim (or_some (indexed kind) (strip (kind_name kind) word) other o e) [
   | inl b ↦ (let m = map_some _ (dec 255 b.value) o b.then in rw (← m.makes, dec_spelt 255 m.value b.value (omega arith) m.given) (strip_spelt (kind_name kind) word b.value b.given))
   | inr there ↦ more there
@@ -90,7 +92,8 @@ all_name_themselves : list_all names_itself properties ≡ true
 all_name_themselves = refl
 
 -- the id of a row that a name found gives the name back
-row_spelt : (profile : ℕ) (kind : Kind) (name : List ℕ) (id : ℕ) (o : Option Property) → IfSome o (λ p. names_itself p ≡ true) → IfSome o (λ p. is_named profile kind name p ≡ true) → option_map (λ (p : Property). p.id) o ≡ Some id → id_word id ≡ name
+row_spelt : (profile : ℕ) (kind : Kind) (name : List ℕ) (id : ℕ) (o : Option Property) → IfSome o (λ p. names_itself p ≡ true)
+    → IfSome o (λ p. is_named profile kind name p ≡ true) → option_map (λ (p : Property). p.id) o ≡ Some id → id_word id ≡ name
 row_spelt profile kind name id None itself named e = absurd cc
 row_spelt profile kind name id (Some p) itself named e =
     let both : (bytes_eq p.name name && is_in_profile profile p) ≡ true = (and_parts (list_any (same_kind kind) p.kinds) (bytes_eq p.name name && is_in_profile profile p) named).1 in

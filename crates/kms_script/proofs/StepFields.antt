@@ -28,24 +28,30 @@ unfolding numbered_step last_number
 numbered_map step bytes = of_number step (dec_at greatest_number bytes)
 
 -- a step with an object, of a client or of a commit
-both_map : (step : ℕ → Kind → ℕ → Step) (n : ℕ) (o : Option (Kind × ℕ)) → (o >>= (λ x. Some (step n x.0 x.1))) ≡ option_map (λ (y : ℕ × Kind × ℕ). step y.0 y.1 y.2) (o >>= (λ x. Some (n, x.0, x.1)))
+both_map : (step : ℕ → Kind → ℕ → Step) (n : ℕ) (o : Option (Kind × ℕ))
+    → (o >>= (λ x. Some (step n x.0 x.1))) ≡ option_map (λ (y : ℕ × Kind × ℕ). step y.0 y.1 y.2) (o >>= (λ x. Some (n, x.0, x.1)))
 both_map step n None = refl
 both_map step n (Some o) = refl
 
-of_both : (step : ℕ → Kind → ℕ → Step) (o : Option (ℕ × List ℕ)) → (o >>= (λ n. object_at n.1 >>= (λ x. Some (step n.0 x.0 x.1)))) ≡ option_map (λ (y : ℕ × Kind × ℕ). step y.0 y.1 y.2) (o >>= (λ n. object_at n.1 >>= (λ x. Some (n.0, x.0, x.1))))
+of_both : (step : ℕ → Kind → ℕ → Step) (o : Option (ℕ × List ℕ))
+    → (o >>= (λ n. object_at n.1 >>= (λ x. Some (step n.0 x.0 x.1))))
+    ≡ option_map (λ (y : ℕ × Kind × ℕ). step y.0 y.1 y.2) (o >>= (λ n. object_at n.1 >>= (λ x. Some (n.0, x.0, x.1))))
 of_both step None = refl
 of_both step (Some n) = both_map step n.0 (object_at n.1)
 
-pub with_object_map : (step : ℕ → Kind → ℕ → Step) (bytes : List ℕ) → step_with_object step bytes ≡ option_map (λ (y : ℕ × Kind × ℕ). step y.0 y.1 y.2) (number_and_object bytes)
+pub with_object_map : (step : ℕ → Kind → ℕ → Step) (bytes : List ℕ)
+    → step_with_object step bytes ≡ option_map (λ (y : ℕ × Kind × ℕ). step y.0 y.1 y.2) (number_and_object bytes)
 unfolding step_with_object number_and_object
 with_object_map step bytes = of_both step (dec_at greatest_number bytes)
 
 -- a step with an object alone
-of_object : (step : Kind → ℕ → Step) (o : Option (Kind × ℕ)) → (o >>= (λ x. Some (step x.0 x.1))) ≡ option_map (λ (x : Kind × ℕ). step x.0 x.1) o
+of_object : (step : Kind → ℕ → Step) (o : Option (Kind × ℕ))
+    → (o >>= (λ x. Some (step x.0 x.1))) ≡ option_map (λ (x : Kind × ℕ). step x.0 x.1) o
 of_object step None = refl
 of_object step (Some o) = refl
 
-pub on_object_map : (step : Kind → ℕ → Step) (bytes : List ℕ) → step_on_object step bytes ≡ option_map (λ (x : Kind × ℕ). step x.0 x.1) (object_at bytes)
+pub on_object_map : (step : Kind → ℕ → Step) (bytes : List ℕ)
+    → step_on_object step bytes ≡ option_map (λ (x : Kind × ℕ). step x.0 x.1) (object_at bytes)
 unfolding step_on_object
 on_object_map step bytes = of_object step (object_at bytes)
 

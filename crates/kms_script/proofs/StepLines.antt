@@ -9,7 +9,7 @@ use Rattle.kms_model.specs.Report.History.{step_line, step_words}
 use Rattle.kms_model.specs.Script.Schedules.{IsFitStep, IsSpeltOnce, step_read}
 use Rattle.kms_script.specs.Scheduled.{IsStepLine, index_in_step, step_text}
 use Rattle.kms_script.proofs.Inverted.{some_same}
-use Rattle.kms_commands.proofs.Spaced.{line-fields}
+use Rattle.kms_words.proofs.Spaced.{line-fields}
 use Rattle.kms_script.proofs.StepsRead.{line_is_read}
 use Rattle.kms_script.proofs.StepsSpelt.{line_of_step}
 
@@ -60,7 +60,8 @@ small_index (Read client) fits = no_index
 small_index (Return client) fits = no_index
 small_index Stall fits = no_index
 
-pub found_small : (bytes : List ℕ) (o : Option Step) → o ≡ step_read bytes → IfSome o (λ step. ForSome (index_in_step step) (λ index. index ≤ 255))
+pub found_small : (bytes : List ℕ) (o : Option Step) → o ≡ step_read bytes
+    → IfSome o (λ step. ForSome (index_in_step step) (λ index. index ≤ 255))
 found_small bytes None e = tt
 found_small bytes (Some step) e = small_index step ((line_of_step bytes step (sym e)).fits)
 

@@ -13,15 +13,13 @@ abbrev pub with_steps : List Step → Result (List Step) Fault → Result (List 
 with_steps steps (Ok more) = Ok (steps ++ more)
 with_steps steps (Err fault) = Err fault
 
-pub none_before : (r : Result (List Step) Fault) → with_steps [] r ≡ r
-none_before (Ok more) = refl
-none_before (Err fault) = refl
-
-one_before : (steps : List Step) (step : Step) (r : Result (List Step) Fault) → with_steps (steps ++ step ∷ []) r ≡ with_steps steps (with_step (Ok step) r)
+one_before : (steps : List Step) (step : Step) (r : Result (List Step) Fault)
+    → with_steps (steps ++ step ∷ []) r ≡ with_steps steps (with_step (Ok step) r)
 one_before steps step (Ok more) = ap Ok (append_assoc steps (step ∷ []) more)
 one_before steps step (Err fault) = refl
 
-pub next_step : (steps : List Step) (step : Step) (n : ℕ) (row : Row) (rows : List Row) → step_in_row n row ≡ Ok step → with_steps (steps ++ step ∷ []) (steps_in (n + 1) rows) ≡ with_steps steps (steps_in n (row ∷ rows))
+pub next_step : (steps : List Step) (step : Step) (n : ℕ) (row : Row) (rows : List Row) → step_in_row n row ≡ Ok step
+    → with_steps (steps ++ step ∷ []) (steps_in (n + 1) rows) ≡ with_steps steps (steps_in n (row ∷ rows))
 unfolding steps_in
 next_step steps step n row rows e = rw e (one_before steps step (steps_in (n + 1) rows))
 
@@ -31,7 +29,8 @@ no_step e = Err e
 abbrev pub no_steps : ParseError → Result (List Step) ParseError
 no_steps e = Err e
 
-pub step_stopped : (steps : List Step) (n : ℕ) (row : Row) (rows : List Row) (e : ParseError) → Gives (λ step. step) (no_step e) (step_in_row n row) → Gives (λ all. all) (no_steps e) (with_steps steps (steps_in n (row ∷ rows)))
+pub step_stopped : (steps : List Step) (n : ℕ) (row : Row) (rows : List Row) (e : ParseError)
+    → Gives (λ step. step) (no_step e) (step_in_row n row) → Gives (λ all. all) (no_steps e) (with_steps steps (steps_in n (row ∷ rows)))
 unfolding steps_in
 step_stopped steps n row rows (errors.Fault line why) is = rw is refl
 step_stopped steps n row rows errors.NoMemory is = tt

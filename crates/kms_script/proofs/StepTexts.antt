@@ -56,7 +56,8 @@ last_number n fits = numbered_plain n [] fits refl
 last_object : (kind : Kind) (index : ℕ) → IsFitIndex index → is_plain (fields (named_object kind index ∷ []))
 last_object kind index fits = field_plain (named_object kind index) [] (object_plain kind index fits) refl
 
-with_object : (n : ℕ) (kind : Kind) (index : ℕ) → IsFitNumber n → IsFitIndex index → is_plain (fields (decimal n ∷ named_object kind index ∷ []))
+with_object : (n : ℕ) (kind : Kind) (index : ℕ) → IsFitNumber n → IsFitIndex index
+    → is_plain (fields (decimal n ∷ named_object kind index ∷ []))
 with_object n kind index fits small = numbered_plain n (named_object kind index ∷ []) fits (last_object kind index small)
 
 text_plain : (step : Step) → IsFitStep step → is_plain (step_text step)

@@ -23,7 +23,8 @@ is_ink b = not (b == 32)
 
 -- A word without blanks ends before the next blank.
 
-until_step : (t : Bool) (b : ℕ) (bs rest : List ℕ) → not t ≡ true → until 32 (bs ++ rest) ≡ bs → cond t [] (b ∷ until 32 (bs ++ rest)) ≡ b ∷ bs
+until_step : (t : Bool) (b : ℕ) (bs rest : List ℕ) → not t ≡ true → until 32 (bs ++ rest) ≡ bs
+    → cond t [] (b ∷ until 32 (bs ++ rest)) ≡ b ∷ bs
 until_step true b bs rest ink e = absurd cc
 until_step false b bs rest ink e = rw e refl
 
@@ -33,7 +34,8 @@ until_word (b ∷ bs) rest ink e =
     let p = and_parts (is_ink b) (list_all is_ink bs) ink in
     until_step (b == 32) b bs rest p.0 (until_word bs rest p.1 e)
 
-from_step : (t : Bool) (b : ℕ) (bs rest : List ℕ) → not t ≡ true → from 32 (bs ++ rest) ≡ rest → cond t (b ∷ (bs ++ rest)) (from 32 (bs ++ rest)) ≡ rest
+from_step : (t : Bool) (b : ℕ) (bs rest : List ℕ) → not t ≡ true → from 32 (bs ++ rest) ≡ rest
+    → cond t (b ∷ (bs ++ rest)) (from 32 (bs ++ rest)) ≡ rest
 from_step true b bs rest ink e = absurd cc
 from_step false b bs rest ink e = e
 
@@ -99,11 +101,13 @@ numbered_read : (step : ℕ → Step) (n : ℕ) → IsFitNumber n → numbered_s
 unfolding numbered_step
 numbered_read step n fits = rw (number_read n [] fits) refl
 
-with_object_read : (step : ℕ → Kind → ℕ → Step) (n : ℕ) (kind : Kind) (index : ℕ) → IsFitNumber n → IsFitIndex index → step_with_object step (fields (decimal n ∷ named_object kind index ∷ [])) ≡ Some (step n kind index)
+with_object_read : (step : ℕ → Kind → ℕ → Step) (n : ℕ) (kind : Kind) (index : ℕ) → IsFitNumber n → IsFitIndex index
+    → step_with_object step (fields (decimal n ∷ named_object kind index ∷ [])) ≡ Some (step n kind index)
 unfolding step_with_object
 with_object_read step n kind index fits small = rw (number_read n (named_object kind index ∷ []) fits, object_is_read kind index small) refl
 
-on_object_read : (step : Kind → ℕ → Step) (kind : Kind) (index : ℕ) → IsFitIndex index → step_on_object step (fields (named_object kind index ∷ [])) ≡ Some (step kind index)
+on_object_read : (step : Kind → ℕ → Step) (kind : Kind) (index : ℕ) → IsFitIndex index
+    → step_on_object step (fields (named_object kind index ∷ [])) ≡ Some (step kind index)
 unfolding step_on_object
 on_object_read step kind index small = rw (object_is_read kind index small) refl
 

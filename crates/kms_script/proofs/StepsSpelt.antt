@@ -52,7 +52,8 @@ object_line bytes o e =
 
 -- The forms of a step
 
-numbered_is : (word : List ℕ) (make : ℕ → Step) → ((n : ℕ) → IsFitNumber n → IsFitStep (make n)) → ((n : ℕ) → step_words (make n) ≡ word ∷ decimal n ∷ [])
+numbered_is : (word : List ℕ) (make : ℕ → Step) → ((n : ℕ) → IsFitNumber n → IsFitStep (make n))
+    → ((n : ℕ) → step_words (make n) ≡ word ∷ decimal n ∷ [])
     → (bytes : List ℕ) (step : Step) → numbered_step make bytes ≡ Some step → IsStepOf word bytes step
 unfolding numbered_step
 numbered_is word make fit are bytes step e =
@@ -66,7 +67,8 @@ numbered_is word make fit are bytes step e =
       rest = last_field (decimal n.0) n.1 bytes u end (dec_at_spelt greatest_number bytes n (omega arith) given);
     }))
 
-with_object_is : (word : List ℕ) (make : ℕ → Kind → ℕ → Step) → ((n : ℕ) (kind : Kind) (index : ℕ) → IsFitNumber n → IsFitIndex index → IsFitStep (make n kind index))
+with_object_is : (word : List ℕ) (make : ℕ → Kind → ℕ → Step)
+    → ((n : ℕ) (kind : Kind) (index : ℕ) → IsFitNumber n → IsFitIndex index → IsFitStep (make n kind index))
     → ((n : ℕ) (kind : Kind) (index : ℕ) → step_words (make n kind index) ≡ word ∷ decimal n ∷ named_object kind index ∷ [])
     → (bytes : List ℕ) (step : Step) → step_with_object make bytes ≡ Some step → IsStepOf word bytes step
 unfolding step_with_object
@@ -97,7 +99,8 @@ on_object_is word make fit are bytes step e =
       rest = object.text;
     })
 
-lone_is : (word : List ℕ) (made : Step) → IsFitStep made → step_words made ≡ word ∷ [] → (bytes : List ℕ) (step : Step) → lone_step made bytes ≡ Some step → IsStepOf word bytes step
+lone_is : (word : List ℕ) (made : Step) → IsFitStep made → step_words made ≡ word ∷ [] → (bytes : List ℕ) (step : Step)
+    → lone_step made bytes ≡ Some step → IsStepOf word bytes step
 unfolding lone_step
 lone_is word made fit are bytes step e =
     from_bind (end_at bytes) _ step e (λ u end is.
@@ -107,7 +110,8 @@ lone_is word made fit are bytes step e =
 -- A line's word says which step it is
 
 -- what is read by a word that is one of several
-by_word : (word k bytes : List ℕ) (step : Step) (one other : Option Step) → (one ≡ Some step → IsStepOf k bytes step) → (other ≡ Some step → IsStepOf word bytes step)
+by_word : (word k bytes : List ℕ) (step : Step) (one other : Option Step) → (one ≡ Some step → IsStepOf k bytes step)
+    → (other ≡ Some step → IsStepOf word bytes step)
     → cond (bytes_eq word k) one other ≡ Some step → IsStepOf word bytes step
 by_word word k bytes step one other here there e = elim (choice_some (bytes_eq word k) one other step e) [
   | inl is ↦ rw (found word k is.0) (here is.1)
@@ -137,7 +141,8 @@ step_is word bytes step e =
     (by_word word (codes "stall") bytes step _ None (λ h. lone_is (codes "stall") Stall tt refl bytes step h) (nothing_read step)))))))))))))))))) e
 
 -- the words of a line
-joined : (bytes fields_of word rest : List ℕ) (words all : List (List ℕ)) → all ≡ word ∷ words → fields words ≡ rest → 32 ∷ (word ++ rest) ≡ fields_of → codes "T" ++ fields_of ≡ bytes → bytes ≡ codes "T" ++ fields all
+joined : (bytes fields_of word rest : List ℕ) (words all : List (List ℕ)) → all ≡ word ∷ words → fields words ≡ rest
+    → 32 ∷ (word ++ rest) ≡ fields_of → codes "T" ++ fields_of ≡ bytes → bytes ≡ codes "T" ++ fields all
 joined bytes fields_of word rest words all are more first whole = rw (are, more, first, whole) refl
 
 -- a step that was read of bytes has them as its line

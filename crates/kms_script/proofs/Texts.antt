@@ -11,7 +11,7 @@ use Rattle.kms_model.specs.declared.scripts.Command.{Command}
 use Rattle.kms_model.specs.declared.scripts.Script.{Script}
 use Rattle.kms_model.specs.Report.TextLines.{line}
 use Rattle.kms_model.specs.Script.Spelling.{client_lines, command_words, conn_words, device_lines, spelt_plane, spelling, text_of}
-use Rattle.kms_commands.proofs.Spaced.{added, lines-flat, lines-map}
+use Rattle.kms_words.proofs.Spaced.{added, lines-flat, lines-map}
 
 abbrev planes_text : Topology → List ℕ
 planes_text t = flat_map (λ p. line (spelt_plane p)) t.planes
@@ -28,15 +28,17 @@ device_text t =
     ∙ ap (λ (bs : List ℕ). (crtcs_text t ++ bs) ++ flat_map line (map conn_words t.conns)) (sym (lines-map spelt_plane t.planes))
     ∙ sym (flat_map-append line ((codes "crtcs" ∷ decimal t.crtcs ∷ []) ∷ map spelt_plane t.planes) (map conn_words t.conns))
 
-pub device_added : (r : Result (Unit {0}) NoMemory) (old first second new : List ℕ) (t : Topology) → first ≡ old ++ crtcs_text t → second ≡ first ++ planes_text t → OnOk r (new ≡ second ++ conns_text t) →
-    OnOk r (new ≡ old ++ text_of (device_lines t))
+pub device_added : (r : Result (Unit {0}) NoMemory) (old first second new : List ℕ) (t : Topology) → first ≡ old ++ crtcs_text t
+    → second ≡ first ++ planes_text t → OnOk r (new ≡ second ++ conns_text t)
+    → OnOk r (new ≡ old ++ text_of (device_lines t))
 device_added r old first second new t crtcs planes conns =
     let front : second ≡ old ++ (crtcs_text t ++ planes_text t) = planes ∙ rw crtcs (append_assoc old (crtcs_text t) (planes_text t)) in
     added r old second new (crtcs_text t ++ planes_text t) (conns_text t) _ front conns (device_text t)
 
 -- the line of a client, and those of all its commands
-pub client_added : (old first now : List ℕ) (names : List (List ℕ)) (commands : List Command) (i : ℕ) → length commands ≤ i → first ≡ old ++ codes "client\n" →
-    now ≡ first ++ flat_map (λ c. line (command_words names c)) (take i commands) → now ≡ old ++ text_of (client_lines names commands)
+pub client_added : (old first now : List ℕ) (names : List (List ℕ)) (commands : List Command) (i : ℕ) → length commands ≤ i
+    → first ≡ old ++ codes "client\n"
+    → now ≡ first ++ flat_map (λ c. line (command_words names c)) (take i commands) → now ≡ old ++ text_of (client_lines names commands)
 client_added old first now names commands i all front rest =
     rest ∙ ap (λ (cs : List Command). first ++ flat_map (λ c. line (command_words names c)) cs) (take_all i commands all)
     ∙ ap (λ (bs : List ℕ). first ++ bs) (sym (lines-map (command_words names) commands))
@@ -48,6 +50,7 @@ clients_text s = flat_map (λ commands. text_of (client_lines s.names commands))
 abbrev version_words : Script → List (List ℕ)
 version_words s = codes "kms" ∷ decimal s.version ∷ []
 
-pub script_text : (s : Script) (first second third : List ℕ) → first ≡ line (version_words s) → second ≡ first ++ text_of (device_lines s.topology) → third ≡ second ++ clients_text s → third ≡ spelling s
+pub script_text : (s : Script) (first second third : List ℕ) → first ≡ line (version_words s)
+    → second ≡ first ++ text_of (device_lines s.topology) → third ≡ second ++ clients_text s → third ≡ spelling s
 script_text s first second third version device clients =
     clients ∙ rw (device, version, ← lines-flat (client_lines s.names) s.clients) (sym (flat_map-append line (version_words s ∷ device_lines s.topology) (flat_map (client_lines s.names) s.clients)))

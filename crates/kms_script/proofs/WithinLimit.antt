@@ -50,12 +50,14 @@ no_fault n (Ok d) f x e = record { next = d; is = refl; then = e }
 no_fault n (Err why) f x e = absurd cc
 
 -- a whole draft ends both
-whole_end : (none : Bool) (n m : ℕ) (d last : Draft) → cond none (Err (missing_line n)) (Ok d) ≡ Ok last → cond none None (Some (resized m d)) ≡ Some (resized m last)
+whole_end : (none : Bool) (n m : ℕ) (d last : Draft) → cond none (Err (missing_line n)) (Ok d) ≡ Ok last
+    → cond none None (Some (resized m d)) ≡ Some (resized m last)
 whole_end true n m d last e = absurd cc
 whole_end false n m d last e = cc
 
 -- rows that were read spell the same draft, whatever its bytes
-pub read_is_spelt : (m n : ℕ) (d last : Draft) (rows : List Row) → lines_after d n rows ≡ Ok last → spelt_lines (resized m d) rows ≡ Some (resized m last)
+pub read_is_spelt : (m n : ℕ) (d last : Draft) (rows : List Row) → lines_after d n rows ≡ Ok last
+    → spelt_lines (resized m d) rows ≡ Some (resized m last)
 unfolding lines_after
 read_is_spelt m n d last [] e = whole_end (is_nil d.conns) n m d last e
 read_is_spelt m n d last (row ∷ rows) e =
@@ -73,14 +75,16 @@ bytes_more : (row : Row) (rows : List Row) (size : ℕ) → (size + (length row.
 bytes_more row rows size = omega (arith, length-append (ended_text row) (flat_map ended_text rows), length-append row.text (10 ∷ []))
 
 -- a row that spells a line is read, within the limit
-spelt_line_is_read : (size : ℕ) (d next : Draft) (row : Row) → spelt_line d row ≡ Some next → size + (length row.text + 1) ≤ script_limit → line_after (resized size d) row ≡ Ok (resized (size + (length row.text + 1)) next)
+spelt_line_is_read : (size : ℕ) (d next : Draft) (row : Row) → spelt_line d row ≡ Some next → size + (length row.text + 1) ≤ script_limit
+    → line_after (resized size d) row ≡ Ok (resized (size + (length row.text + 1)) next)
 unfolding line_after
 spelt_line_is_read size d next row e le =
     let l = is_line d next row e in
     rw (l.printable, l.is_ended, line_same size d row.text, l.accepted, le-ltb script_limit (size + (length row.text + 1)) le) refl
 
 -- rows that spell a draft are read as it, with their bytes, within the limit
-pub spelt_is_read : (size n : ℕ) (d last : Draft) (rows : List Row) → spelt_lines d rows ≡ Some last → size + bytes_in rows ≤ script_limit → lines_after (resized size d) n rows ≡ Ok (resized (size + bytes_in rows) last)
+pub spelt_is_read : (size n : ℕ) (d last : Draft) (rows : List Row) → spelt_lines d rows ≡ Some last → size + bytes_in rows ≤ script_limit
+    → lines_after (resized size d) n rows ≡ Ok (resized (size + bytes_in rows) last)
 unfolding lines_after
 spelt_is_read size n d last [] e le =
     let end = ended_draft (is_nil d.conns) d last e in

@@ -25,7 +25,7 @@ use Rattle.kms_model.specs.Script.Spelling.{assign_word, name_word, property_wor
 use Rattle.kms_model.specs.Script.WellFormed.{is_assign_in, is_integer, is_property_in, is_value_in}
 use Rattle.kms_model.specs.Script.Words.{from, is_digit, is_label, is_label_rest, is_letter, until}
 use Rattle.kms_script.specs.ReadAnew.{makes_nothing, renamed_assign, renamed_prop, renamed_value}
-use Rattle.kms_script.proofs.Cutting.{each, is_inner, no_front, number_inner}
+use Rattle.kms_script.proofs.Cutting.{each, is_inner, number_inner, number_value}
 use Rattle.kms_script.proofs.Decimals.{dec_read, decimal_digits}
 use Rattle.kms_script.proofs.LabelsMade.{said_keeps}
 use Rattle.kms_script.proofs.NamesBegin.{Begins}
@@ -116,25 +116,12 @@ saying_there names all label low same =
 
 -- Bytes
 
-digit_passes : (c b : ℕ) → is_digit c ≡ false → is_digit b ≡ true → not (b == c) ≡ true
-digit_passes c b none is = by (b == c) refl
+-- a byte that passes a test is none that does not
+passes : (test : ℕ → Bool) (c b : ℕ) → test c ≡ false → test b ≡ true → not (b == c) ≡ true
+passes test c b none is = by (b == c) refl
   where
     by : (t : Bool) → (b == c) ≡ t → not t ≡ true
-    by true e = let same : b ≡ c = eqb-true b c e in absurd (true≢false (sym is ∙ (ap is_digit same ∙ none)))
-    by false e = refl
-
-property_passes : (c b : ℕ) → is_property_byte c ≡ false → is_property_byte b ≡ true → not (b == c) ≡ true
-property_passes c b none is = by (b == c) refl
-  where
-    by : (t : Bool) → (b == c) ≡ t → not t ≡ true
-    by true e = let same : b ≡ c = eqb-true b c e in absurd (true≢false (sym is ∙ (ap is_property_byte same ∙ none)))
-    by false e = refl
-
-label_passes : (c b : ℕ) → is_label_rest c ≡ false → is_label_rest b ≡ true → not (b == c) ≡ true
-label_passes c b none is = by (b == c) refl
-  where
-    by : (t : Bool) → (b == c) ≡ t → not t ≡ true
-    by true e = let same : b ≡ c = eqb-true b c e in absurd (true≢false (sym is ∙ (ap is_label_rest same ∙ none)))
+    by true e = let same : b ≡ c = eqb-true b c e in absurd (true≢false (sym is ∙ (ap test same ∙ none)))
     by false e = refl
 
 -- the bytes before a separator, and from it on
@@ -303,18 +290,6 @@ record ValueBack (names : Names) (all : List (List ℕ)) (v : Value) : Type 0 wh
   keeps : MakesNone names after
   stays : all ≡ words_in names → after ≡ names
 
-number_back : (names : Names) (n : ℕ) → n ≤ 18446744073709551615 → value_read names (decimal n) ≡ Some (value.Num (pos n), names)
-unfolding value_read int
-number_back names n le =
-    let digits = decimal_digits n (omega (arith, le)) in
-    rw (
-      no_front 64 [] (decimal n) refl digits,
-      no_front 43 [] (decimal n) refl digits,
-      no_front 99 (codes "rtc") (decimal n) refl digits,
-      no_front 45 [] (decimal n) refl digits,
-      dec_read 18446744073709551615 n (omega arith) le,
-    ) refl
-
 never_zero : (n : ℕ) → (suc n == 0) ≡ false
 never_zero n = grind (arith, nat_tests)
 
@@ -324,7 +299,7 @@ unfolding value_read int
 below_back names n le = rw (dec_read 9223372036854775808 (suc n) (omega arith) le, never_zero n) refl
 
 num_back : (names : Names) (z : ℤ) → is_integer z ≡ true → value_read names (signed_decimal z) ≡ Some (value.Num z, names)
-num_back names (pos n) is = number_back names n (leb-true n 18446744073709551615 is)
+num_back names (pos n) is = number_value names n (leb-true n 18446744073709551615 is)
 num_back names (negsuc n) is =
     let parts = and_parts (int_le (negsuc 9223372036854775807) (negsuc n)) (int_le (negsuc n) (pos 18446744073709551615)) is in
     below_back names n (let low : n ≤ 9223372036854775807 = leb-true n 9223372036854775807 parts.0 in omega (arith, low))
@@ -379,12 +354,12 @@ unfolding assign_words
 words_back kind index prop given le is =
     let front : List ℕ = kind_name kind ++ decimal index in
     let digits : list_all (λ b. not (b == 46)) (decimal index) ≡ true =
-    each is_digit (λ b. not (b == 46)) (λ b d. digit_passes 46 b refl d) (decimal index) (decimal_digits index (omega (arith, le))) in
+    each is_digit (λ b. not (b == 46)) (λ b d. passes is_digit 46 b refl d) (decimal index) (decimal_digits index (omega (arith, le))) in
     let first : list_all (λ b. not (b == 46)) front ≡ true =
     list_all-append (λ b. not (b == 46)) (kind_name kind) (decimal index)
     ∙ and_from _ _ (kind_passes (λ b. not (b == 46)) refl refl refl refl refl refl refl refl refl refl kind) digits in
     let bytes : list_all (λ b. not (b == 61)) prop ≡ true =
-    each is_property_byte (λ b. not (b == 61)) (λ b d. property_passes 61 b refl d) prop
+    each is_property_byte (λ b. not (b == 61)) (λ b d. passes is_property_byte 61 b refl d) prop
     (and_parts _ (list_all is_property_byte prop) is).1 in
     let outer = parts_at 46 front (prop ++ 61 ∷ given) first in
     let inner = parts_at 61 prop given bytes in
@@ -476,7 +451,7 @@ label_inner (b ∷ bs) is =
     let first = and_parts (is_letter b) (nat_le (length bs) 15 && list_all is_label_rest bs) is in
     let rest = and_parts (nat_le (length bs) 15) (list_all is_label_rest bs) first.1 in
     let letter : is_label_rest b ≡ true = rw first.0 refl in
-    and_from _ _ (label_passes 32 b refl letter) (each is_label_rest is_inner (λ x e. label_passes 32 x refl e) bs rest.1)
+    and_from _ _ (passes is_label_rest 32 b refl letter) (each is_label_rest is_inner (λ x e. passes is_label_rest 32 x refl e) bs rest.1)
 
 signed_inner : (z : ℤ) → is_integer z ≡ true → list_all is_inner (signed_decimal z) ≡ true
 signed_inner (pos n) is = let le : n ≤ 18446744073709551615 = leb-true n 18446744073709551615 is in number_inner n (omega (arith, le))
@@ -505,7 +480,7 @@ assign_inner all profile a is =
     let prop : List ℕ = property_word all a.prop in
     let given : List ℕ = value_word all a.value in
     let bytes : list_all is_inner prop ≡ true =
-    each is_property_byte is_inner (λ b d. property_passes 32 b refl d) prop
+    each is_property_byte is_inner (λ b d. passes is_property_byte 32 b refl d) prop
     (and_parts _ (list_all is_property_byte prop) (prop_word profile all a.prop inner.0)).1 in
     let front : list_all is_inner (kind_name a.kind ++ decimal a.index) ≡ true =
     list_all-append is_inner (kind_name a.kind) (decimal a.index)

@@ -3,7 +3,7 @@ use Rattle.std.specs.Prelude.{◌≡◌, ◌≤◌, ◌+◌, ◌*◌, ℕ, List,
 use Rattle.kms_model.specs.Script.InputLines.{Row}
 use Rattle.kms_model.specs.Script.WholeInput.{Draft, Lined, clients_in}
 use Rattle.kms_words.specs.Fitting.{IsFitDevice, HasFitClients}
-use Rattle.kms_commands.specs.Named.{HasRoomForNames, NamesGrow}
+use Rattle.kms_words.specs.Named.{HasRoomForNames, NamesGrow}
 use Rattle.kms_script.specs.declared.draft.Draft.{Draft as Held}
 use Rattle.kms_script.specs.declared.faults.ParseError.{ParseError}
 use Rattle.kms_script.specs.declared.faults.ParseError.TheVariants as errors

@@ -1,4 +1,5 @@
 pub mod Drafted
+pub mod Generated
 pub mod Lines
 pub mod Overlong
 pub mod ReadAnew

@@ -4,7 +4,7 @@ use Rattle.std.specs.Option.{option_map_or}
 use Rattle.kms_model.specs.Script.CommandLines.{assign_words}
 use Rattle.kms_model.specs.Script.Grammar.{hex_at, int, field_words}
 use Rattle.kms_model.specs.Script.Words.{◌>>=◌, dec, dec_at, is_label, strip}
-use Rattle.kms_commands.specs.Packed.{packed_all}
+use Rattle.kms_words.specs.Packed.{packed_all}
 
 -- how many blanks bytes have
 abbrev pub blank_count : List ℕ → ℕ

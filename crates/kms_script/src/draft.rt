@@ -10,13 +10,12 @@ ghost use Rattle.kms_script.specs.Drafted.{draft_in, row_in, IsSoundDraft, HasRo
 use crate::lines::read_line;
 use crate::rows::Row;
 use crate::stop::Stop;
-use kms_commands::Names;
 use kms_model::{
     Command, MAX_CLIENTS, MAX_CONNECTORS, MAX_CRTCS, MAX_PLANES, NoMemory, PlaneInfo, Script, Seq,
     Topology, Why,
 };
 use kms_words::{
-    MAX_COMMANDS, MAX_LABELS, MAX_SCRIPT, read_crtcs, read_formats, split_at_byte, take_dec,
+    MAX_COMMANDS, MAX_LABELS, MAX_SCRIPT, Names, read_crtcs, read_formats, split_at_byte, take_dec,
     take_end, take_field,
 };
 use std::alloc::Global;

@@ -1,4 +1,5 @@
-//! Lines that are read behind other names than those with which they were written.
+//! Laws of texts: lines that are read behind other names than those with which they were written, and generated scripts.
+ghost use Rattle.kms_script.specs.Generated.{AreWellFormed};
 ghost use Rattle.kms_script.specs.ReadAnew.{FormsNeedNoNames, RequestsAreReadBack};
 
 /// Whether a line is a command does not depend on the names that are known before it.
@@ -10,4 +11,9 @@ pub fn forms_need_no_names()
 /// numbers that its names have then.
 pub fn requests_are_read_back()
     ensures { RequestsAreReadBack }
+{}
+
+/// Each generated script is one that a machine can be made of, and that some text spells. (`kms_gen` makes them.)
+pub fn generated_scripts_are_well_formed()
+    ensures { AreWellFormed }
 {}

@@ -30,7 +30,7 @@ pub use kms_words::{
     MAX_ASSIGNS, MAX_BLOB, MAX_COMMANDS, MAX_INPUT, MAX_LABELS, MAX_SCRIPT, is_label, read_dec,
     read_int,
 };
-pub use laws::{forms_need_no_names, requests_are_read_back};
+pub use laws::{forms_need_no_names, generated_scripts_are_well_formed, requests_are_read_back};
 pub use one_line::{LineError, NameIndex, read_command, read_command_with};
 pub use printing::{print, print_command};
 pub use printing_steps::print_step;

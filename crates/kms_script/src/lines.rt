@@ -2,13 +2,12 @@
 ghost use Rattle.std.specs.Prelude.{◌≡◌, ◌+◌, ◌≤◌, false, IfOk, OnOk, length};
 ghost use Rattle.kms_model.specs.Script.WellFormed.{IsFitCommand};
 ghost use Rattle.kms_script.specs.Lines.{GivesLine, line_of};
-ghost use Rattle.kms_commands.specs.Named.{HasRoomForNames, NamesGrow};
+ghost use Rattle.kms_words.specs.Named.{HasRoomForNames, NamesGrow};
 
 use crate::overlong::{fault_of_many, has_many};
 use crate::stop::Stop;
-use kms_commands::{Names, command_of};
 use kms_model::{Command, Why};
-use kms_words::split_at_byte;
+use kms_words::{Names, command_of, split_at_byte};
 use std::alloc::Global;
 
 /// The command that a line spells after the names so far, or its first fault in the order Form, Label, Limit: two

@@ -7,8 +7,8 @@ ghost use Rattle.kms_script.specs.Stated.{GivesCommand, line_error};
 
 use crate::lines::read_line;
 use crate::stop::Stop;
-use kms_commands::Names;
 use kms_model::{Command, NoMemory, Seq, Topology, Why};
+use kms_words::Names;
 use std::alloc::Global;
 use std::marker::Model;
 
@@ -58,7 +58,7 @@ pub struct NameIndex {
 
 impl Model for NameIndex {
     ghost use Rattle.std.specs.Prelude.{◌≡◌};
-    ghost use Rattle.kms_commands.specs.Named.{Indexed, kept};
+    ghost use Rattle.kms_words.specs.Named.{Indexed, kept};
 
     ghost Value = { Indexed };
 

@@ -5,15 +5,14 @@ ghost use Rattle.std.specs.Bool.{Decides, nat_eq};
 ghost use Rattle.std.specs.List.{IsDistinct};
 ghost use Rattle.kms_model.specs.Script.CommandLines.{atomic_read};
 ghost use Rattle.kms_script.specs.Lines.{checked};
-ghost use Rattle.kms_commands.specs.Named.{HasRoomForNames};
-ghost use Rattle.kms_commands.specs.Packed.{made_words};
+ghost use Rattle.kms_words.specs.Named.{HasRoomForNames};
+ghost use Rattle.kms_words.specs.Packed.{made_words};
 ghost use Rattle.kms_script.specs.Overlong.{AddsLabels, assign_label, atomic_labels, blank_count, has_many, labels_at, label_word, are_rising, value_label};
 
-use kms_commands::{Names, push_packed};
 use kms_model::{NoMemory, Why};
 use kms_words::{
-    MAX_ASSIGNS, is_label, read_assign_words, read_dec, read_int, strip, take_dec, take_field,
-    take_hex,
+    MAX_ASSIGNS, Names, is_label, push_packed, read_assign_words, read_dec, read_int, strip,
+    take_dec, take_field, take_hex,
 };
 use std::alloc::Global;
 

@@ -7,9 +7,10 @@ ghost use Rattle.kms_model.specs.Script.WholeInput.{input, script_limit};
 ghost use Rattle.kms_model.specs.Script.Spelling.{Spells, client_lines, conn_words, device_lines, spelt_plane, spelling, text_of};
 ghost use Rattle.kms_script.specs.ReadAnew.{IsLineOf};
 
-use kms_commands::{push_command, push_command_words, push_number, push_word};
 use kms_model::{Command, NoMemory, PlaneInfo, Script, Seq, Topology};
-use kms_words::{push_crtcs, push_formats, type_word};
+use kms_words::{
+    push_command, push_command_words, push_crtcs, push_formats, push_number, push_word, type_word,
+};
 use std::alloc::Global;
 
 /// Adds a line of a word and a number.

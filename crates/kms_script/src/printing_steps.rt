@@ -7,9 +7,8 @@ ghost use Rattle.kms_model.specs.Script.Schedules.{IsFitStep, step_read};
 ghost use Rattle.kms_words.specs.Printed.{fields};
 ghost use Rattle.kms_script.specs.Scheduled.{index_in_step, step_text};
 
-use kms_commands::{push_number, push_word};
 use kms_model::{Kind, NoMemory, Seq, Step};
-use kms_words::{kind_word, push_decimal};
+use kms_words::{kind_word, push_decimal, push_number, push_word};
 use std::alloc::Global;
 
 /// Adds an object with a blank before it.

@@ -1,4 +1,10 @@
 pub mod Digits
+pub mod Fields
 pub mod Listing
 pub mod Loops
+pub mod Naming
+pub mod PackedNames
 pub mod Parts
+pub mod ShortLabels
+pub mod Spaced
+pub mod WordsNumbered

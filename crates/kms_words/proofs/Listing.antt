@@ -56,12 +56,14 @@ module _ (mask n : ℕ) where
   comma_passed is = ap comma_behind (bit_passed is)
 
 -- one digit more
-pub digit_added : (old before now : List ℕ) (count n : ℕ) → 0 < count → before ≡ old ++ hex_digits (count - 1) (n / 16) → now ≡ before ++ digit_glyph false (n % 16) ∷ [] → now ≡ old ++ hex_digits count n
+pub digit_added : (old before now : List ℕ) (count n : ℕ) → 0 < count → before ≡ old ++ hex_digits (count - 1) (n / 16)
+    → now ≡ before ++ digit_glyph false (n % 16) ∷ [] → now ≡ old ++ hex_digits count n
 digit_added old before now count n pos e f =
     f ∙ rw e (append_assoc old (hex_digits (count - 1) (n / 16)) (digit_glyph false (n % 16) ∷ [])) ∙ ap (λ (ds : List ℕ). old ++ ds) (sym (hex_digits_more count n pos))
 
 -- one word more, behind a comma where there are words before it
-pub word_added : (old before mark marked now : List ℕ) (f : ℕ → List ℕ) (mask n : ℕ) → has_bit mask n ≡ true → before ≡ old ++ list_word f n mask → mark ≡ comma_behind (bits_below mask n) →
-    marked ≡ before ++ mark → now ≡ marked ++ f n → now ≡ old ++ list_word f (n + 1) mask
+pub word_added : (old before mark marked now : List ℕ) (f : ℕ → List ℕ) (mask n : ℕ) → has_bit mask n ≡ true
+    → before ≡ old ++ list_word f n mask → mark ≡ comma_behind (bits_below mask n)
+    → marked ≡ before ++ mark → now ≡ marked ++ f n → now ≡ old ++ list_word f (n + 1) mask
 word_added old before mark marked now f mask n is e m g h =
     h ∙ rw (g, e, m) (append_assoc (old ++ list_word f n mask) (comma_behind (bits_below mask n)) (f n)) ∙ append_assoc old (list_word f n mask) (comma_behind (bits_below mask n) ++ f n) ∙ ap (λ (ws : List ℕ). old ++ ws) (sym (list_taken mask n f is))

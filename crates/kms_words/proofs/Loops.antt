@@ -12,10 +12,6 @@ use Rattle.kms_model.specs.Script.Words.{◌>>=◌}
 abbrev pub joined : {A : Type 0} → List A → Option (List A) → Option (List A)
 joined xs o = option_map (λ ys. xs ++ ys) o
 
-pub joined_none : {A : Type 0} (o : Option (List A)) → joined [] o ≡ o
-joined_none None = refl
-joined_none (Some ys) = refl
-
 more_items : {A : Type 0} (xs : List A) (y : A) (o : Option (List A)) → joined xs (o >>= (λ ys. Some (y ∷ ys))) ≡ joined (xs ++ y ∷ []) o
 more_items xs y None = refl
 more_items xs y (Some ys) = ap Some (sym (append_assoc xs (y ∷ []) ys))
@@ -55,6 +51,7 @@ one_more : (n k : ℕ) → k < n → n - k ≡ suc (n - (k + 1))
 one_more n k lt = omega arith
 
 -- the pixel at the front, with n pixels in all and k before it
-pub next_pixel : (xs : List ℕ) (format : Format) (n k : ℕ) (bytes after : List ℕ) (word : ℕ) → k < n → taken word after ≡ pixel_at format bytes
+pub next_pixel : (xs : List ℕ) (format : Format) (n k : ℕ) (bytes after : List ℕ) (word : ℕ) → k < n
+    → taken word after ≡ pixel_at format bytes
     → joined xs (pixels_at format (n - k) bytes) ≡ joined (xs ++ word ∷ []) (pixels_at format (n - (k + 1)) after)
 next_pixel xs format n k bytes after word lt e = rw (one_more n k lt, ← e) (more_items xs word (pixels_at format (n - (k + 1)) after))

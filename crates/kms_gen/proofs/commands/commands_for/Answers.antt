@@ -11,7 +11,8 @@ loop-index-preserved c =
     let less : n + 1 - i ≡ suc (n + 1 - (i + 1)) = omega arith in
     let made = c.in_ok-push_flip.ensures in
     let drawn = rw (c.upper_bits.ensures, c.next_number-x.ensures) at made in
-    rw c.next_number-x.ensures (drawn_more c.args.crtc i c.loop-index.x (n + 1 - (i + 1)) (n + 1 - i) _ _ less drawn) ∙ c.loop-index.invariant
+    rw c.next_number-x.ensures (drawn_more c.args.crtc i c.loop-index.x (n + 1 - (i + 1)) (n + 1 - i) _ _ less drawn)
+    ∙ c.loop-index.invariant
 
 pub returns : goal.returns
 returns c =

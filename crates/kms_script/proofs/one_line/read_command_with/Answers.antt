@@ -1,7 +1,7 @@
 use Rattle.std.proofs.Common.{◌≡◌, Ok, Err, ap, sym, subst, ◌∙◌}
 use Rattle.kms_model.specs.Script.CommandLines.{unmade}
 use Rattle.kms_script.specs.Lines.{GivesLine, line_of}
-use Rattle.kms_commands.specs.Named.{Indexed}
+use Rattle.kms_words.specs.Named.{Indexed}
 use Rattle.kms_script.proofs.LineFaults.{alone_read, alone_stopped}
 use Rattle.kms_script.proofs.one_line.read_command_with.Goals as goal
 

@@ -1,7 +1,7 @@
 use Rattle.std.proofs.Common.{◌≡◌, ◌++◌, ℕ, List, [], true, false, not, Err, ap, refl, sym, subst, ◌∙◌, rules}
 use Rattle.kms_model.specs.Script.CommandLines.{atomic_read}
 use Rattle.kms_script.specs.Lines.{checked}
-use Rattle.kms_commands.specs.Packed.{made_words, packed_all}
+use Rattle.kms_words.specs.Packed.{made_words, packed_all}
 use Rattle.kms_script.specs.Overlong.{AddsLabels, labels_at}
 use Rattle.kms_script.proofs.ManyAssigns.{many_decided, no_flags, no_labels, no_user, why_of}
 use Rattle.kms_script.proofs.overlong.fault_of_many.Goals as goal
@@ -20,7 +20,8 @@ returns-then-not-branch c =
     no_labels c.args.names.now.names c.args.fields.now (c.in-Some.field-0-0, c.in-Some.rest.now) (c.in-Some-take_dec.field-0-0, c.in-Some-take_dec.rest.now) c.in_ok-push_made.ensures.differ (sym c.in-Some.ensures.value) (sym c.in-Some-take_dec.ensures.value) read
 
 -- the fault by whether the labels differ
-decided : (c : After-are_distinct) → checked (atomic_read c.args.names.now.names c.args.fields.now) ≡ Err (why_of (not c.are_distinct.result))
+decided : (c : After-are_distinct)
+    → checked (atomic_read c.args.names.now.names c.args.fields.now) ≡ Err (why_of (not c.are_distinct.result))
 decided c =
     let formed : c.in_ok-push_labels.field-0 ≡ true = search rules in
     let earlier : List ℕ = packed_all (made_words c.args.names.now.names.all) in
@@ -32,7 +33,9 @@ decided c =
     (sym c.in-Some.ensures.value) (sym c.in-Some-take_dec.ensures.value) refl added c.are_distinct.ensures
 
 pub returns-then-are_distinct : goal.returns-then-are_distinct
-returns-then-are_distinct c = decided ((goal.at.returns-then-are_distinct c).After-are_distinct) ∙ ap (λ b. Err (why_of (not b))) c.if-are_distinct.true
+returns-then-are_distinct c =
+    decided ((goal.at.returns-then-are_distinct c).After-are_distinct) ∙ ap (λ b. Err (why_of (not b))) c.if-are_distinct.true
 
 pub returns-else-are_distinct : goal.returns-else-are_distinct
-returns-else-are_distinct c = decided ((goal.at.returns-else-are_distinct c).After-are_distinct) ∙ ap (λ b. Err (why_of (not b))) c.if-are_distinct.false
+returns-else-are_distinct c =
+    decided ((goal.at.returns-else-are_distinct c).After-are_distinct) ∙ ap (λ b. Err (why_of (not b))) c.if-are_distinct.false

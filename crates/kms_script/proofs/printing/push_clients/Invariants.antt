@@ -5,4 +5,5 @@ use Rattle.kms_model.specs.Script.Spelling.{client_lines, text_of}
 use Rattle.kms_script.proofs.printing.push_clients.Given as goal
 
 abbrev pub invariant-loop-commands : goal.invariant-loop-commands
-invariant-loop-commands l = l.text.items ≡ l.initial.text.items ++ flat_map (λ commands. text_of (client_lines l.names commands)) (take l.commands-index l.clients)
+invariant-loop-commands l =
+    l.text.items ≡ l.initial.text.items ++ flat_map (λ commands. text_of (client_lines l.names commands)) (take l.commands-index l.clients)

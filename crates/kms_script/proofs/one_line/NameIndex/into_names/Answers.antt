@@ -1,6 +1,6 @@
 use Rattle.std.proofs.Common.{ap, ◌∙◌}
 use Rattle.kms_model.specs.Script.CommandLines.{words_in}
-use Rattle.kms_commands.proofs.Naming.{words_unmade}
+use Rattle.kms_words.proofs.Naming.{words_unmade}
 use Rattle.kms_script.proofs.one_line.NameIndex.into_names.Goals as goal
 
 pub returns-clause-names : goal.returns-clause-names

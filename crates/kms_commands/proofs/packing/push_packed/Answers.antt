@@ -1,7 +1,0 @@
-use Rattle.std.proofs.Common.{◌≡◌, true, rules}
-use Rattle.kms_model.specs.Script.Words.{is_label}
-use Rattle.kms_commands.proofs.ShortLabels.{label_short}
-use Rattle.kms_commands.proofs.packing.push_packed.Goals as goal
-
-pub packed-requires : goal.packed-requires
-packed-requires c = let label : is_label c.args.word.now ≡ true = search rules in label_short c.args.word.now label

@@ -1,5 +1,0 @@
-use Rattle.kms_gen.proofs.Spelt.{generated_formed}
-use Rattle.kms_gen.proofs.scripts.generated_scripts_are_well_formed.Goals as goal
-
-pub returns : goal.returns
-returns c = λ seed n below some few. generated_formed seed n few
