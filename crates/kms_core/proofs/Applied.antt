@@ -36,7 +36,6 @@ use Rattle.kms_core.specs.Locks.{MayBackOff, MayLock, MayRelock, is_step, lock_s
 use Rattle.kms_core.specs.declared.calls.contexts.Locked.{Locked}
 use Rattle.kms_core.specs.Next.{IsLegal}
 use Rattle.kms_core.specs.Run.{Run, machine}
-use Rattle.kms_core.specs.Stands.{Stores, Stands}
 use Rattle.kms_core.specs.Work.{MayCleanUp, MayWrite, is_commit_over, write_step}
 use Rattle.kms_core.proofs.next.ClientSteps.{answered_is, must_not}
 use Rattle.kms_core.proofs.calls.Locking.{steps_of_lock}
@@ -207,8 +206,8 @@ module _ (v : Run) where
 
 -- What is asked for of a device's objects
 
-pub few_now : (r v : Run) (st : Stores) → Stands r st → r ≡ v → HasFewObjects v.script.topology
-few_now r v st stands same = subst (λ (w : Run). HasFewObjects w.script.topology) same (few_objects r.script.topology stands.formed.device)
+pub few_now : (v : Run) → IsWellFormed v.script → HasFewObjects v.script.topology
+few_now v formed = few_objects v.script.topology formed.device
 
 module _ (v : Run) (few : HasFewObjects v.script.topology) where
   pub lock_index : (client : ℕ) (kind : Kind) (index : ℕ) → IsLegal v (step.Lock client kind index) → index ≤ 255
@@ -258,8 +257,8 @@ pub record IsHistoryOf (v : Run) : Type 0 where
   pub formed : IsWellFormed v.script
   pub history : is_history v.script v.steps ≡ true
 
-pub history_now : (r v : Run) (st : Stores) → Stands r st → r ≡ v → IsHistoryOf v
-history_now r v st stands same = subst IsHistoryOf same (record { formed = stands.formed; history = stands.history })
+pub history_now : (v : Run) → IsWellFormed v.script → is_history v.script v.steps ≡ true → IsHistoryOf v
+history_now v formed history = record { formed = formed; history = history }
 
 module _ (v : Run) (is : IsHistoryOf v) where
   pub cleanup_asked : (k : ℕ) → IsLegal v (step.Cleanup k) → MayCleanUp v k

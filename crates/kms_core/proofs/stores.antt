@@ -2,6 +2,7 @@ pub mod Histories
 pub mod Spared
 pub mod Beside
 pub mod First
+pub mod Found
 pub mod Fresh
 pub mod Accepted
 pub mod Recorded

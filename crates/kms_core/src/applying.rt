@@ -8,7 +8,6 @@ ghost use Rattle.kms_core.specs.Run.{gains, if_ok, machine};
 use crate::deciding::{commit, decide};
 use crate::machine::Core;
 use crate::next::{check_request, refusal_reply, request_taken, resolve_request};
-use crate::stores::Stores;
 use crate::tails::claim_commit;
 use kms_model::{Doing, Kind, NoMemory, ObjId, Reply, Step};
 use std::alloc::Global;
@@ -32,9 +31,9 @@ impl Core {
             } => do_lock(self, client, kind, index),
             Step::BackOff { client } => do_back_off(self, client),
             Step::Relock { client } => do_relock(self, client),
-            Step::Refuse { client } => do_refuse(&mut self.stores, client),
-            Step::Test { client } => do_test(&mut self.stores, client),
-            Step::Swap { client } => do_swap(&mut self.stores, alloc, client),
+            Step::Refuse { client } => do_refuse(self, client),
+            Step::Test { client } => do_test(self, client),
+            Step::Swap { client } => do_swap(self, alloc, client),
             Step::Make { client } => do_make(self, alloc, client),
             Step::Signal { client } => do_signal(self, client),
             Step::Claim { .. }
@@ -92,8 +91,7 @@ fn do_lock(core: &mut Core, client: u32, kind: Kind, index: u32) -> Result<(), N
     ensures history { core.new
         ≡ gains core.old (if_ok result (λ u. step.Lock client kind index ∷ [])) }
 {
-    let stores = &*core.stores;
-    let _ = &stores.script;
+    core.is_a_history();
     let Doing::Taking(ticket) = core.doing(client) else {
         unreachable!();
     };
@@ -125,39 +123,44 @@ fn do_relock(core: &mut Core, client: u32) -> Result<(), NoMemory>
 }
 
 /// Refuses the request for which a client takes locks.
-fn do_refuse(stores: &mut Stores, client: u32) -> Result<(), NoMemory>
-    requires { IsLegal stores.old (step.Refuse client) }
-    ensures history { stores.new ≡ gains stores.old (if_ok result (λ u. step.Refuse client ∷ [])) }
+fn do_refuse(core: &mut Core, client: u32) -> Result<(), NoMemory>
+    requires { IsLegal core.old (step.Refuse client) }
+    ensures history { core.new ≡ gains core.old (if_ok result (λ u. step.Refuse client ∷ [])) }
 {
-    let _ = &stores.script;
-    let Some(request) = request_taken(stores, client) else {
+    core.is_a_history();
+    let Some(request) = request_taken(core, client) else {
         unreachable!();
     };
-    let reply = refusal_reply(stores, client, request);
-    decide(stores, client, Step::Refuse { client }, reply)
+    let reply = refusal_reply(core, client, request);
+    decide(&mut core.stores, client, Step::Refuse { client }, reply)
 }
 
 /// Tells that the request for which a client takes locks is accepted.
-fn do_test(stores: &mut Stores, client: u32) -> Result<(), NoMemory>
-    requires { IsLegal stores.old (step.Test client) }
-    ensures history { stores.new ≡ gains stores.old (if_ok result (λ u. step.Test client ∷ [])) }
+fn do_test(core: &mut Core, client: u32) -> Result<(), NoMemory>
+    requires { IsLegal core.old (step.Test client) }
+    ensures history { core.new ≡ gains core.old (if_ok result (λ u. step.Test client ∷ [])) }
 {
-    let _ = &stores.script;
-    decide(stores, client, Step::Test { client }, Reply::Tested)
+    core.is_a_history();
+    decide(
+        &mut core.stores,
+        client,
+        Step::Test { client },
+        Reply::Tested,
+    )
 }
 
 /// Commits the request for which a client takes locks.
-fn do_swap(stores: &mut Stores, alloc: Global, client: u32) -> Result<(), NoMemory>
-    requires { IsLegal stores.old (step.Swap client) }
-    ensures history { stores.new ≡ gains stores.old (if_ok result (λ u. step.Swap client ∷ [])) }
+fn do_swap(core: &mut Core, alloc: Global, client: u32) -> Result<(), NoMemory>
+    requires { IsLegal core.old (step.Swap client) }
+    ensures history { core.new ≡ gains core.old (if_ok result (λ u. step.Swap client ∷ [])) }
 {
-    let _ = &stores.script;
-    let Some(request) = request_taken(stores, client) else {
+    core.is_a_history();
+    let Some(request) = request_taken(core, client) else {
         unreachable!();
     };
-    let checked = check_request(stores, request);
-    let resolved = resolve_request(stores, alloc, request)?;
-    let _commit = commit(stores, alloc, client, &checked, &resolved)?;
+    let checked = check_request(core, request);
+    let resolved = resolve_request(core, alloc, request)?;
+    let _commit = commit(&mut core.stores, alloc, client, &checked, &resolved)?;
     Ok(())
 }
 
@@ -184,8 +187,7 @@ fn do_write(core: &mut Core, commit: u32, kind: Kind, index: u32)
     requires { IsLegal core.old (step.Write commit kind index) }
     ensures history { core.new ≡ gains core.old (step.Write commit kind index ∷ []) }
 {
-    let stores = &*core.stores;
-    let _ = &stores.script;
+    core.is_a_history();
     core.write(commit, ObjId::of(kind, index));
 }
 
@@ -194,8 +196,7 @@ fn do_flush(core: &mut Core, commit: u32, kind: Kind, index: u32)
     requires { IsLegal core.old (step.Flush commit kind index) }
     ensures history { core.new ≡ gains core.old (step.Flush commit kind index ∷ []) }
 {
-    let stores = &*core.stores;
-    let _ = &stores.script;
+    core.is_a_history();
     let Kind::Crtc = kind else {
         unreachable!();
     };
@@ -223,8 +224,7 @@ fn do_cleanup(core: &mut Core, commit: u32)
     requires { IsLegal core.old (step.Cleanup commit) }
     ensures history { core.new ≡ gains core.old (step.Cleanup commit ∷ []) }
 {
-    let stores = &*core.stores;
-    let _ = &stores.script;
+    core.is_a_history();
     let _over = core.cleanup(commit);
 }
 
@@ -242,8 +242,7 @@ fn do_return(core: &mut Core, client: u32) -> Result<(), NoMemory>
     requires { IsLegal core.old (step.Return client) }
     ensures history { core.new ≡ gains core.old (if_ok result (λ u. step.Return client ∷ [])) }
 {
-    let stores = &*core.stores;
-    let _ = &stores.script;
+    core.is_a_history();
     let _over = core.return_from(client)?;
     Ok(())
 }

@@ -9,6 +9,7 @@ mod reading;
 mod states;
 
 use crate::machine::Core;
+use crate::stores::look_ups;
 pub use contexts::Locked;
 use kms_model::{Lookups, NoMemory, Request};
 pub use states::has_lock;
@@ -20,6 +21,6 @@ impl Core {
         ensures { IfOk result (λ found.
             found ≡ lookups (world self.now) request.now) }
     {
-        crate::stores::lookups(&self.stores, alloc, request)
+        look_ups(alloc, &self.stores.things, request.assigns.as_slice())
     }
 }

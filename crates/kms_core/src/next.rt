@@ -13,6 +13,5 @@ mod settling;
 mod stalling;
 mod tail_steps;
 
-pub use client_steps::{doing, idle_command, is_at_end};
+pub use client_steps::has_client;
 pub use judging::{check_request, refusal_reply, request_taken, resolve_request};
-pub use tail_steps::has_go;

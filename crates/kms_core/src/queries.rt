@@ -19,9 +19,11 @@ ghost use Rattle.kms_core.specs.Stands.{entry_pair};
 ghost use Rattle.kms_things.specs.Present.{IsPresent};
 
 use crate::machine::Core;
+use crate::next::has_client;
 use crate::spare::Spare;
 use kms_model::{
     Answered, Command, Doing, Duplicates, FbInfo, Image, Latch, Mode, Place, Script, Step,
+    command_of,
 };
 
 impl Core {
@@ -36,6 +38,15 @@ impl Core {
     pub fn history(&self) -> &[Step]
         ensures { result.now ≡ self.now.steps }
     {
+        self.lawful_steps()
+    }
+
+    /// Those steps, each of which was legal after those before it.
+    fn lawful_steps(&self) -> &[Step]
+        ensures steps { result.now ≡ self.now.steps }
+        ensures formed { IsWellFormed self.now.script }
+        ensures history { is_history self.now.script self.now.steps ≡ true }
+    {
         self.stores.steps.as_slice()
     }
 
@@ -44,7 +55,7 @@ impl Core {
         ensures formed { IsWellFormed self.now.script }
         ensures history { is_history self.now.script self.now.steps ≡ true }
     {
-        let _ = &self.stores.script;
+        self.lawful_steps();
     }
 
     /// The accepted commands in order of time, each by its client and its number, both counted from 1.
@@ -93,7 +104,12 @@ impl Core {
     pub fn doing(&self, client: u32) -> Doing
         ensures { result ≡ doing_at (machine self.now) client }
     {
-        crate::next::doing(&self.stores, client)
+        let stores = &*self.stores;
+        if has_client(self, client) {
+            stores.clients.place(client).doing
+        } else {
+            Doing::Idle
+        }
     }
 
     /// The command at which a client, by its number from 1, is idle; none where it is at its end, has an acquire
@@ -101,7 +117,15 @@ impl Core {
     pub fn idle_command(&self, client: u32) -> Option<&Command>
         ensures { option_copied result ≡ idle_command_at self.now client }
     {
-        crate::next::idle_command(&self.stores, client)
+        let stores = &*self.stores;
+        if !has_client(self, client) {
+            return None;
+        }
+        let place = stores.clients.place(client);
+        match place.doing {
+            Doing::Idle => command_of(&stores.script, client, place.command),
+            _ => None,
+        }
     }
 
     /// Whether a client, given by its number from 1 to that of the clients, is at its end: idle, with no command left.
@@ -110,7 +134,11 @@ impl Core {
         requires high { client ≤ length self.now.script.clients }
         ensures { result ≡ is_at_end self.now.script (machine self.now) client }
     {
-        crate::next::is_at_end(&self.stores, client)
+        let place = self.place(client);
+        match place.doing {
+            Doing::Idle => command_of(self.script(), client, place.command).is_none(),
+            _ => false,
+        }
     }
 
     /// The present states of all objects, old and new alike.
@@ -165,7 +193,7 @@ impl Core {
         requires { crtc < 4 }
         ensures { result ≡ is_some (go_at (machine self.now).device (object_id Crtc crtc)) }
     {
-        crate::next::has_go(&self.stores, crtc)
+        self.stores.goes[crtc as usize].is_some()
     }
 
     /// What the framebuffer with an id is, while the machine has it: while it is open, or the present state of a plane, a

@@ -16,7 +16,7 @@ use kms_regs::RegFile;
 use kms_signal::{EventQueue, Fences};
 use kms_things::{Things, start_states};
 use kms_track::Tracker;
-pub use looking::{Decided, Stale, first_stale, lookups, taker};
+pub use looking::{Decided, Stale, first_stale, look_ups, taker};
 pub use records::{answer, join, make_room, make_spare, make_step_room};
 use std::alloc::Global;
 use std::marker::Model;

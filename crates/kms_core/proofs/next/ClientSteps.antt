@@ -35,6 +35,13 @@ pub outside_idle : (r v : Run) (st : Stores) (client : ℕ) → Stands r st → 
 outside_idle r v st client stands same away =
     sym (ap (λ (p : Place). p.doing) (outside r.script r.steps stands.history client (subst (λ (w : Run). IsOutside w.script client) (sym same) away))) ∙ ap (λ (w : Run). doing_at (machine w) client) same
 
+pub outside_command : (r : Run) (client : ℕ) → IsOutside r.script client → None ≡ idle_command_at r client
+outside_command r client away = by (is_idle (doing_at (machine r) client)) (command_at r.script (machine r) client) refl where
+  by : (b : Bool) (o : Option Command) → command_at r.script (machine r) client ≡ o → None ≡ only_if b o
+  by false o at = refl
+  by true None at = refl
+  by true (Some c) at = absurd (away (client_there r.script (machine r) client c at))
+
 pub inside_doing : (r v : Run) (st : Stores) (client : ℕ) → Stands r st → r ≡ v → 1 ≤ client → client ≤ length r.script.clients → (place_of st.clients client).doing ≡ doing_at (machine v) client
 inside_doing r v st client stands same low high =
     ap (λ (p : Place). p.doing) (stands.stores.clients.places client (is_client r.script client stands.formed (low, high))) ∙ ap (λ (w : Run). doing_at (machine w) client) same

@@ -1,5 +1,5 @@
 -- What a client lacks for its request, and the lock that it takes next.
-use Rattle.std.proofs.Common.{◌≡◌, ℕ, ◌<◌, Bool, true, false, length, cond, Option, Some, None, arith, refl, sym, ap, ◌∙◌, subst}
+use Rattle.std.proofs.Common.{◌≡◌, ℕ, ◌<◌, Bool, true, false, length, cond, Option, Some, None, arith, refl, sym, ap, ◌∙◌}
 use Rattle.std.specs.Prelude.{◌&&◌, find, is_some, not}
 use Rattle.std.specs.List.{list_any, range_with_len}
 use Rattle.std.specs.Option.{option_map}
@@ -18,6 +18,7 @@ use Rattle.kms_model.specs.Device.Objects.{count_of, object_id}
 use Rattle.kms_model.specs.Device.Sound.{IsDevice}
 use Rattle.kms_model.specs.Firsts.{or_else}
 use Rattle.kms_model.specs.Machine.Commits.{lockable}
+use Rattle.kms_model.specs.Machine.Histories.{is_history}
 use Rattle.kms_model.specs.Machine.State.{Machine, doing_at, holder_at, holds}
 use Rattle.kms_model.specs.Machine.Steps.{is_free_or_older, is_lockable, may_lock, taking_at, ticket_of}
 use Rattle.kms_model.specs.Order.Turns.{first_missing, in_affected_group, in_named_group, missing_of, next_lock, or_those}
@@ -28,6 +29,7 @@ use Rattle.kms_model.specs.Request.Named.{names}
 use Rattle.kms_model.specs.Request.Reach.{reaches}
 use Rattle.kms_model.specs.Request.Touched.{is_affected, sets, touches, touches_crtc}
 use Rattle.kms_model.specs.Request.Verdict.{early_in}
+use Rattle.kms_model.specs.Script.WellFormed.{IsWellFormed}
 use Rattle.kms_model.proofs.KindsOfIds.{kind_of-object}
 use Rattle.kms_model.proofs.MaskLemmas.{has_bit-below}
 use Rattle.kms_model.proofs.ReachLaw.{reach-is}
@@ -45,12 +47,11 @@ use Rattle.kms_core.specs.Decisions.{world}
 use Rattle.kms_core.specs.Judging.{request_taken}
 use Rattle.kms_core.specs.Order.{AreNeeds, NeedsLocks, first_lacked, is_missing, is_open, lacks}
 use Rattle.kms_core.specs.Run.{Run, machine}
-use Rattle.kms_core.specs.Stands.{Stores, Stands}
 use Rattle.kms_track.specs.InStep.{HasStates}
 use Rattle.kms_core.proofs.stores.AfterCommit.{there_is}
 use Rattle.kms_core.proofs.next.Finding.{any_lockable, found_filtered, found_lockable, found_those}
-use Rattle.kms_core.proofs.next.Presented.{presented}
-use Rattle.kms_core.proofs.next.Refusing.{early_at, settable_now}
+use Rattle.kms_core.proofs.next.Presented.{sound_now}
+use Rattle.kms_core.proofs.next.Refusing.{settable_now}
 use Rattle.kms_core.proofs.next.Taken.{lockable_exists, taken_parts, taking-is}
 
 -- Groups
@@ -86,22 +87,22 @@ lockable_few t Conn i device on = let lt = ltb-true i (length t.conns) on in ome
 lockable_few t Enc i device on = absurd (false≢true on)
 
 -- what the states of a check tell to be affected is what the request affects
-pub affected_alike : (r : Run) (st : Stores) (request : Request) (checked : Checked) → Stands r st
+pub affected_alike : (r : Run) (request : Request) (checked : Checked) → IsWellFormed r.script → is_history r.script r.steps ≡ true
     → early_in r.script.topology (world r) request ≡ None → IsChecked r.script.topology (world r) request checked → HasStates checked
     → affected_below checked.states.crtcs checked.named 4 ≡ affected_group r.script.topology (world r) request
-affected_alike r st request checked stands none is all =
+affected_alike r request checked formed history none is all =
     let t = r.script.topology in
     let w = world r in
     let there : (i : ℕ) → i < t.crtcs → names w.values (after w request) request.assigns (object_id Crtc i) ≡ true → is_some (state_at checked.states.crtcs i) ≡ true =
     λ i within named.
     (let bit : has_bit checked.touched.crtcs i ≡ true =
     ap (λ (m : Mask). has_bit m.crtcs i) is.touched ∙ has_bit-below (λ j. touches_crtc w.values (after w request) request.assigns (object_id Crtc j)) t.crtcs i within ∙ or_right (sets request.assigns (object_id Crtc i)) _ named in
-    let few = (few_objects t stands.formed.device).crtcs in
+    let few = (few_objects t formed.device).crtcs in
     ap (λ (o : Option _). is_some o) (there_is checked.states.crtcs i) ∙ all.crtcs i (omega (arith, within, few)) bit) in
     ap (λ named. affected_below checked.states.crtcs named 4) is.named
     ∙ affected-is t w request checked.states
     (record {
-      at = record { device = stands.formed.device; sound = (presented r st stands).sound; early = none };
+      at = record { device = formed.device; sound = sound_now r formed history; early = none };
       old = is.old;
       new = is.new;
     }) there
@@ -110,23 +111,22 @@ abbrev only_crtcs : ℕ → Mask
 only_crtcs crtcs = record { crtcs = crtcs; planes = 0; conns = 0 }
 
 -- as the call finds it
-pub needs_at : (r v : Run) (st : Stores) (client : ℕ) (n : Needs) (checked : Checked) → Stands r st → r ≡ v → Some n.request.now ≡ request_taken v.script (machine v) client
-    → early_in v.script.topology (world v) n.request.now ≡ None
+pub needs_at : (v : Run) (client : ℕ) (n : Needs) (checked : Checked) → IsWellFormed v.script → is_history v.script v.steps ≡ true
+    → Some n.request.now ≡ request_taken v.script (machine v) client → early_in v.script.topology (world v) n.request.now ≡ None
     → IsChecked v.script.topology (world v) n.request.now checked → HasStates checked
     → n.named ≡ record { crtcs = checked.named; planes = 0; conns = 0 } → n.affected ≡ affected_below checked.states.crtcs checked.named 4 → n.touched ≡ checked.touched → NeedsLocks v client n
-needs_at r v st client n checked stands same taken none is all named_is affected_is touched_is =
+needs_at v client n checked formed history taken none is all named_is affected_is touched_is =
     let q = n.request.now in
-    let alike = affected_alike r st q checked stands (early_at r v q same none) (subst (λ (w : Run). IsChecked w.script.topology (world w) q checked) (sym same) is) all in
     record {
       taken = taken;
       none = none;
       needs = record {
         named = named_is ∙ ap only_crtcs is.named;
-        affected = affected_is ∙ alike ∙ ap (λ (w : Run). affected_group w.script.topology (world w) q) same;
+        affected = affected_is ∙ affected_alike v q checked formed history none is all;
         touched = touched_is ∙ is.touched;
       };
-      device = subst (λ (w : Run). IsDevice w.script.topology) same stands.formed.device;
-      settable = settable_now r st q stands (early_at r v q same none);
+      device = formed.device;
+      settable = settable_now v q formed none;
     }
 
 -- Locks

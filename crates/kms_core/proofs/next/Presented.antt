@@ -1,8 +1,11 @@
 -- The present states of a core's device, and what its labels name.
-use Rattle.std.proofs.Common.{List, sym, ap}
+use Rattle.std.proofs.Common.{◌≡◌, List, true, sym, ap}
 use Rattle.kms_model.specs.declared.worlds.Thing.{Thing}
+use Rattle.kms_model.specs.Device.Sound.{IsSound}
 use Rattle.kms_model.specs.Device.World.{thing_labelled}
+use Rattle.kms_model.specs.Machine.Histories.{is_history}
 use Rattle.kms_model.specs.Request.Lookups.{look_of, look_of_any, look_up, look_up_any}
+use Rattle.kms_model.specs.Script.WellFormed.{IsWellFormed}
 use Rattle.kms_laws.proofs.Modes.{plain-from}
 use Rattle.kms_laws.proofs.Steps.{history_kept}
 use Rattle.kms_request.specs.Whole.{ArePresent, ArePresentSomewhere, TellSame}
@@ -10,12 +13,16 @@ use Rattle.kms_core.specs.Decisions.{world}
 use Rattle.kms_core.specs.Run.{Run}
 use Rattle.kms_core.specs.Stands.{Stores, Stands}
 
+-- the world of a history is sound
+pub sound_now : (v : Run) → IsWellFormed v.script → is_history v.script v.steps ≡ true → IsSound v.script.topology (world v)
+sound_now v formed history = (history_kept v.script v.steps (plain-from v.script formed) history).present.lawful.sound
+
 pub presented : (r : Run) (st : Stores) → Stands r st → ArePresent r.script.topology (world r) st.present
 presented r st stands =
     let states = stands.stores.world.states in
     record {
       device = stands.formed.device;
-      sound = (history_kept r.script r.steps (plain-from r.script stands.formed) stands.history).present.lawful.sound;
+      sound = sound_now r stands.formed stands.history;
       numbered = (history_kept r.script r.steps (plain-from r.script stands.formed) stands.history).present.lawful.numbered;
       old = states.old;
       new = states.new;

@@ -37,6 +37,7 @@ use Rattle.kms_model.specs.Request.SameLooks.{TellsLabels}
 use Rattle.kms_model.specs.Request.Sets.{look_in}
 use Rattle.kms_model.specs.Request.Touched.{named_by, touched_by}
 use Rattle.kms_model.specs.Request.Verdict.{early_in, late_in, verdict}
+use Rattle.kms_model.specs.Script.WellFormed.{IsWellFormed}
 use Rattle.kms_model.proofs.Items.{or_else-none}
 use Rattle.kms_model.proofs.MaskLemmas.{has_bit-mask_below}
 use Rattle.kms_model.proofs.RequestLemmas.{accepted_allowed, all_settable}
@@ -137,10 +138,12 @@ all_states t w request checked stand touched = record {
     within kind part i test is has =
         ltb-true i (count_of t kind) (and_parts (nat_lt i (count_of t kind)) test (sym is ∙ sym (ap (λ m. has_bit (part m) i) touched) ∙ has)).0
 
-pub settable_now : (r : Run) (st : Stores) (request : Request) → Stands r st → early_in r.script.topology (world r) request ≡ None → All IsSettable request.assigns
-settable_now r st request stands none =
+pub settable_now : (r : Run) (request : Request) → IsWellFormed r.script → early_in r.script.topology (world r) request ≡ None
+    → All IsSettable request.assigns
+settable_now r request formed none =
     let t = r.script.topology in
-    all_settable t (look_up (world r)) request.assigns (and_parts (keeps_limits t) _ stands.formed.device.legal).0 (accepted_allowed t (look_up (world r)) request none)
+    all_settable t (look_up (world r)) request.assigns (and_parts (keeps_limits t) _ formed.device.legal).0
+    (accepted_allowed t (look_up (world r)) request none)
 
 pub early_at : (r v : Run) (request : Request) → r ≡ v → early_in v.script.topology (world v) request ≡ None → early_in r.script.topology (world r) request ≡ None
 early_at r v request same none = subst (λ (w : Run). early_in w.script.topology (world w) request ≡ None) (sym same) none
@@ -177,15 +180,17 @@ record TakesSome (r : Run) (client : ℕ) : Type 0 where
   at : request_at r.script (machine r) client ≡ Some request
   number : IsClient client
 
-takes_some : (r : Run) (st : Stores) (client : ℕ) (test : Request → Bool) → Stands r st → taking_at r.script (machine r) client test ≡ true → TakesSome r client
-takes_some r st client test stands h = by (request_at r.script (machine r) client) refl where
+takes_some : (r : Run) (client : ℕ) (test : Request → Bool) → IsWellFormed r.script → taking_at r.script (machine r) client test ≡ true
+    → TakesSome r client
+takes_some r client test formed h = by (request_at r.script (machine r) client) refl where
   by : (o : Option Request) → request_at r.script (machine r) client ≡ o → TakesSome r client
   by None e = absurd (steps_of.taking-none r.script (machine r) client test e h)
   by (Some q) e = record {
     request = q;
     taking = (and_parts (is_taking (doing_at (machine r) client)) _ h).0;
     at = e;
-    number = is_client r.script client stands.formed (client_there r.script (machine r) client (command.Atomic q) (request-is (command_at r.script (machine r) client) q e));
+    number = is_client r.script client formed (client_there r.script (machine r) client (command.Atomic q)
+        (request-is (command_at r.script (machine r) client) q e));
   }
 
 may_of : (r : Run) (step : Step) → legal r.script (machine r) step ≡ true → (not (machine r).stalled && may r.script (machine r) step) ≡ legal r.script (machine r) step → may r.script (machine r) step ≡ true
@@ -205,23 +210,23 @@ refuse_taken v client is none = false≢true (no_refuse v.script (machine v) cli
 pub swap_taken : (v : Run) (client : ℕ) → IsLegal v (step.Swap client) → None ≡ request_taken v.script (machine v) client → ⊥
 swap_taken v client is none = false≢true (no_swap v.script (machine v) client none ∙ may_swap_now v client is)
 
-pub decides_test : (r v : Run) (st : Stores) (client : ℕ) → Stands r st → r ≡ v → IsLegal v (step.Test client) → Decides v client (step.Test client) reply.Tested
+pub decides_test : (v : Run) (client : ℕ) → IsWellFormed v.script → IsLegal v (step.Test client)
+    → Decides v client (step.Test client) reply.Tested
 unfolding legal may next
-decides_test r v st client stands same is =
-    let now : IsLegal r (step.Test client) = subst (λ (w : Run). IsLegal w (step.Test client)) (sym same) is in
-    let takes = takes_some r st client (may_test r.script.topology (machine r) client) stands (and_parts (not (machine r).stalled) _ now).1 in
-    subst (λ (w : Run). Decides w client (step.Test client) reply.Tested) same (record { number = takes.number; taking = takes.taking; legal = now; does = refl })
+decides_test v client formed is =
+    let takes = takes_some v client (may_test v.script.topology (machine v) client) formed (and_parts (not (machine v).stalled) _ is).1 in
+    record { number = takes.number; taking = takes.taking; legal = is; does = refl }
 
-pub decides_refuse : (r v : Run) (st : Stores) (client : ℕ) (request : Request) (given : Reply) → Stands r st → r ≡ v → IsLegal v (step.Refuse client) → Some request ≡ request_taken v.script (machine v) client
+pub decides_refuse : (v : Run) (client : ℕ) (request : Request) (given : Reply) → IsWellFormed v.script → IsLegal v (step.Refuse client)
+    → Some request ≡ request_taken v.script (machine v) client
     → given ≡ refusal_reply v.script.topology (machine v) client request (verdict v.script.topology (world v) request) → Decides v client (step.Refuse client) given
 unfolding legal may next refused
-decides_refuse r v st client request given stands same is taken told =
-    let now : IsLegal r (step.Refuse client) = subst (λ (w : Run). IsLegal w (step.Refuse client)) (sym same) is in
-    let takes = takes_some r st client (may_refuse r.script.topology (machine r) client) stands (and_parts (not (machine r).stalled) _ now).1 in
+decides_refuse v client request given formed is taken told =
+    let takes = takes_some v client (may_refuse v.script.topology (machine v) client) formed (and_parts (not (machine v).stalled) _ is).1 in
     let mine = taken_parts v.script (machine v) client request taken in
     record {
       number = takes.number;
-      taking = subst (λ (w : Run). is_taking (doing_at (machine w) client) ≡ true) same takes.taking;
+      taking = takes.taking;
       legal = is;
       does = rw mine.at (ap (decided (machine v) client) (sym told));
     }
@@ -246,17 +251,19 @@ going_now : (v : Run) (client : ℕ) → IsLegal v (step.Swap client) → (machi
 unfolding legal
 going_now v client is = not-true (machine v).stalled (and_parts (not (machine v).stalled) _ is).0
 
-pub commits_now : (r v : Run) (st : Stores) (client : ℕ) (request : Request) (checked : Checked) (resolved : Resolved) → Stands r st → r ≡ v → IsLegal v (step.Swap client) → Some request ≡ request_taken v.script (machine v) client
+pub commits_now : (v : Run) (client : ℕ) (request : Request) (checked : Checked) (resolved : Resolved) → IsWellFormed v.script
+    → IsLegal v (step.Swap client) → Some request ≡ request_taken v.script (machine v) client
     → IsChecked v.script.topology (world v) request checked → HasStates checked
     → IsResolved v.script.topology (look_up (world v)) request resolved → MayCommit v client checked resolved
-commits_now r v st client request checked resolved stands same is taken as_checked states asks =
+commits_now v client request checked resolved formed is taken as_checked states asks =
     let takes = taken_parts v.script (machine v) client request taken in
     let swap = swap_parts v client request is takes in
-    let now : IsLegal r (step.Swap client) = subst (λ (w : Run). IsLegal w (step.Swap client)) (sym same) is in
     record {
       ready = record {
         request = request;
-        number = subst (λ (w : Run). IsClient client) same (client_of r st client (subst (λ (w : Run). request_at w.script (machine w) client ≡ Some request) (sym same) takes.at) stands);
+        number = is_client v.script client formed
+            (client_there v.script (machine v) client (command.Atomic request) (request-is (command_at v.script (machine v) client)
+            request takes.at));
         taking = takes.taking;
         at = takes.at;
         going = going_now v client is;
@@ -270,23 +277,28 @@ commits_now r v st client request checked resolved stands same is taken as_check
       asks = asks;
       legal = is;
     }
-  where
-    client_of : (r : Run) (st : Stores) (client : ℕ) → request_at r.script (machine r) client ≡ Some request → Stands r st → IsClient client
-    client_of r st client at stands = is_client r.script client stands.formed (client_there r.script (machine r) client (command.Atomic request) (request-is (command_at r.script (machine r) client) request at))
 
 -- What a request that is accepted asks for
 
 tells_found : (v : Run) (request : Request) (found : List (ℕ × Look)) → found ≡ lookups (world v) request → TellsLabels (look_in found) (look_up (world v)) request.assigns
 tells_found v request found is = subst (λ (l : List (ℕ × Look)). TellsLabels (look_in l) (look_up (world v)) request.assigns) (sym is) (world_tells (world v) request)
 
-pub resolved_now : (r v : Run) (request : Request) (found : List (ℕ × Look)) (resolved : Resolved) → r ≡ v → found ≡ lookups (world v) request
-    → ((f : ℕ → Look) → TellsLabels (look_in found) f request.assigns → IsResolved r.script.topology f request resolved) → IsResolved v.script.topology (look_up (world v)) request resolved
-resolved_now r v request found resolved same is by =
-    subst (λ (w : Run). IsResolved w.script.topology (look_up (world v)) request resolved) same (by (look_up (world v)) (tells_found v request found is))
+pub resolved_now : (s : Script) (v : Run) (request : Request) (found : List (ℕ × Look)) (resolved : Resolved) → s ≡ v.script
+    → found ≡ lookups (world v) request
+    → ((f : ℕ → Look) → TellsLabels (look_in found) f request.assigns → IsResolved s.topology f request resolved)
+    → IsResolved v.script.topology (look_up (world v)) request resolved
+resolved_now s v request found resolved same is by =
+    subst (λ (u : Script). IsResolved u.topology (look_up (world v)) request resolved) same
+    (by (look_up (world v)) (tells_found v request found is))
 
-pub resolved_never : (r v : Run) (request : Request) (found : List (ℕ × Look)) (why : Refusal) (error : RequestError) → r ≡ v → found ≡ lookups (world v) request → early_in v.script.topology (world v) request ≡ None → error ≡ Of why
-    → ((f : ℕ → Look) → TellsLabels (look_in found) f request.assigns → ComesFrom (early_refusal r.script.topology f request) error) → ⊥
-resolved_never r v request found why error same is none of by =
-    let here : ComesFrom (early_refusal r.script.topology (look_up (world v)) request) (Of why) = subst (λ (e : RequestError). ComesFrom (early_refusal r.script.topology (look_up (world v)) request) e) of (by (look_up (world v)) (tells_found v request found is)) in
-    let due : early_in v.script.topology (world v) request ≡ Some why.0 = subst (λ (w : Run). early_refusal w.script.topology (look_up (world v)) request ≡ Some why.0) same here in
+pub resolved_never : (s : Script) (v : Run) (request : Request) (found : List (ℕ × Look)) (why : Refusal) (error : RequestError)
+    → s ≡ v.script
+    → found ≡ lookups (world v) request → early_in v.script.topology (world v) request ≡ None → error ≡ Of why
+    → ((f : ℕ → Look) → TellsLabels (look_in found) f request.assigns → ComesFrom (early_refusal s.topology f request) error) → ⊥
+resolved_never s v request found why error same is none of by =
+    let here : ComesFrom (early_refusal s.topology (look_up (world v)) request) (Of why) =
+    subst (λ (e : RequestError). ComesFrom (early_refusal s.topology (look_up (world v)) request) e) of
+    (by (look_up (world v)) (tells_found v request found is)) in
+    let due : early_in v.script.topology (world v) request ≡ Some why.0 =
+    subst (λ (u : Script). early_refusal u.topology (look_up (world v)) request ≡ Some why.0) same here in
     false≢true (ap (λ (n : Option ℕ). is_some n) (sym none ∙ due))

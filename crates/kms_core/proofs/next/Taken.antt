@@ -6,11 +6,12 @@ use Rattle.kms_model.specs.declared.objects.Kind.{Kind}
 use Rattle.kms_model.specs.declared.objects.Kind.TheVariants.{Crtc, Plane, Conn, Enc}
 use Rattle.kms_model.specs.declared.objects.Topology.{Topology}
 use Rattle.kms_model.specs.declared.replies.Step.TheVariants as step
+use Rattle.kms_model.specs.declared.scripts.Command.{Command}
 use Rattle.kms_model.specs.declared.scripts.Command.TheVariants as command
 use Rattle.kms_model.specs.declared.scripts.Request.{Request}
 use Rattle.kms_model.specs.declared.scripts.Script.{Script}
 use Rattle.kms_model.specs.Device.Objects.{exists, object_id}
-use Rattle.kms_model.specs.Machine.State.{Machine, command_at, doing_at, holder_at, request_at}
+use Rattle.kms_model.specs.Machine.State.{Machine, command_at, doing_at, holder_at, request_at, request_in}
 use Rattle.kms_model.specs.Machine.Steps.{is_free_or_older, is_lockable, is_taking, may, may_lock, taking_at, ticket_of}
 use Rattle.kms_model.specs.Request.Reach.{reaches}
 use Rattle.kms_model.proofs.TouchedLemmas.{HasFewObjects}
@@ -20,6 +21,7 @@ use Rattle.kms_core.specs.Calls.{only_if}
 use Rattle.kms_wwlock.specs.Objects.{IsLockable}
 use Rattle.kms_model.specs.declared.objects.ObjId.{ObjId}
 use Rattle.kms_core.specs.Judging.{request_taken}
+use Rattle.kms_core.specs.Next.{IsOutside}
 use Rattle.kms_core.specs.Run.{Run, machine}
 use Rattle.kms_core.specs.Stands.{Stores, Stands}
 use Rattle.kms_core.proofs.Places.{client_there, is_client}
@@ -35,6 +37,13 @@ taken_parts s m client request is = by (is_taking (doing_at m client)) refl is w
   by : (b : Bool) → is_taking (doing_at m client) ≡ b → Some request ≡ only_if b (request_at s m client) → Takes s m client request
   by true taking is = record { taking = taking; at = sym is }
   by false taking is = absurd cc
+
+pub outside_request : (s : Script) (m : Machine) (client : ℕ) → IsOutside s client → None ≡ request_taken s m client
+outside_request s m client away = by (is_taking (doing_at m client)) (command_at s m client) refl where
+  by : (b : Bool) (o : Option Command) → command_at s m client ≡ o → None ≡ only_if b (request_in o)
+  by false o at = refl
+  by true None at = refl
+  by true (Some c) at = absurd (away (client_there s m client c at))
 
 pub taking-is : (s : Script) (m : Machine) (client : ℕ) (test : Request → Bool) (request : Request) → Takes s m client request → taking_at s m client test ≡ test request
 taking-is s m client test request takes = rw (takes.taking, takes.at) refl

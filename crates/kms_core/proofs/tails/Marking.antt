@@ -1,7 +1,7 @@
 -- Steps of tails that change marks alone.
-use Rattle.std.proofs.Common.{◌≡◌, ℕ, ◌<◌, ◌≤◌, true, Some, length, List, [], ◌∷◌, ◌++◌, refl, sym, ap, ◌∙◌, subst, arith}
+use Rattle.std.proofs.Common.{◌≡◌, ℕ, ◌<◌, ◌≤◌, true, None, Some, length, List, [], ◌∷◌, ◌++◌, refl, sym, ap, ◌∙◌, subst, arith}
 use Rattle.std.specs.Prelude.{not, Bool}
-use Rattle.std.proofs.lemmas.Bool.{and_from, and_parts}
+use Rattle.std.proofs.lemmas.Bool.{and_from, and_parts, false≢true}
 use Rattle.kms_model.specs.declared.replies.Step.{Step}
 use Rattle.kms_model.specs.declared.replies.Step.TheVariants as step
 use Rattle.kms_model.specs.declared.scripts.Script.{Script}
@@ -15,7 +15,7 @@ use Rattle.kms_model.specs.Things.Tables.{without_id}
 use Rattle.kms_laws.proofs.Modes.{plain-from}
 use Rattle.kms_laws.proofs.NeverStuck.{history_facts}
 use Rattle.kms_things.specs.Made.{Made}
-use Rattle.kms_track.specs.InStep.{IsTrackerOf, IsKept, WhereverOf}
+use Rattle.kms_track.specs.InStep.{IsTrackerOf, WhereverOf}
 use Rattle.kms_track.specs.declared.progress.Mark.TheVariants as mark
 use Rattle.kms_track.specs.declared.tail.Tail.{Tail}
 use Rattle.kms_track.specs.StepLaws.{HasNames}
@@ -31,6 +31,7 @@ use Rattle.kms_core.specs.Work.{MayBeDone, MayCleanUp, TellsOver, is_commit_over
 use Rattle.kms_core.proofs.stores.FreedCalls.{goes_cleaning, kept_held, kept_places}
 use Rattle.kms_core.proofs.stores.Histories.{goes_on, written_anew}
 use Rattle.kms_core.proofs.stores.Spared.{IsOwn, own_step}
+use Rattle.kms_core.proofs.tails.Writing.{kept_as}
 use Rattle.kms_laws.proofs.SmallNumbers.{numbers_fit}
 
 -- all stores stand with other marks
@@ -135,14 +136,19 @@ owns_cleanup r v st k stands same asked over tells told =
 
 -- What is freed
 
+-- its tail is there
+pub cleanup_there : (r v : Run) (st : Stores) (k : ℕ) → Stands r st → r ≡ v → MayCleanUp v k → None ≡ tail_of st.tracker k → ⊥
+cleanup_there r v st k stands same asked none =
+    false≢true (sym (subst (λ (x : Run). MayCleanUp x k) (sym same) asked).kept
+    ∙ (kept_as r st k None stands (claimed_within r v st k stands same asked) none).0)
+
 -- its states name what the commit keeps
 pub tail_keeps_all : (r v : Run) (st : Stores) (k : ℕ) (x : Tail) (found ids : List ℕ) → Stands r st → r ≡ v → MayCleanUp v k
     → Some x ≡ tail_of st.tracker k
     → WhereverOf x (λ t d latches k. AreAllOf found (λ id. commit_keeps t d id k)) → ids ≡ found
     → AreAllOf ids (λ id. commit_keeps r.script.topology (machine r).device id k)
 tail_keeps_all r v st k x found ids stands same asked some all is =
-    let kept = subst (λ o. IsKept r.script.topology (machine r).device.commits (machine r).device.marks (machine r).records.latches k o)
-    (sym some) (stands.stores.tracker.kept k (claimed_within r v st k stands same asked)) in
+    let kept = kept_as r st k (Some x) stands (claimed_within r v st k stands same asked) some in
     rw is (all r.script.topology (machine r).device (machine r).records.latches k stands.formed.device kept.1)
 
 pub cleanup_places : (r v : Run) (st : Stores) (k : ℕ) (ids : List ℕ) → Stands r st → r ≡ v → MayCleanUp v k → AreAllOf ids (λ id. commit_keeps r.script.topology (machine r).device id k) → framebuffers_in st.made.things ids ≤ st.freed.places

@@ -116,7 +116,8 @@ no_others t object few high is =
 -- What is found of a commit that is there and not cleaned
 
 -- it is kept
-kept_as : (r : Run) (st : Stores) (k : ℕ) (o : Option Tail) → Stands r st → k < length (machine r).device.commits → o ≡ tail_of st.tracker k
+pub kept_as : (r : Run) (st : Stores) (k : ℕ) (o : Option Tail) → Stands r st → k < length (machine r).device.commits → o ≡ tail_of
+    st.tracker k
     → IsKept r.script.topology (machine r).device.commits (machine r).device.marks (machine r).records.latches k o
 kept_as r st k o stands within finds =
     subst (λ o. IsKept r.script.topology (machine r).device.commits (machine r).device.marks (machine r).records.latches k o) (sym finds)

@@ -5,7 +5,7 @@ ghost use Rattle.kms_model.specs.Things.Tables.{AreBelow};
 ghost use Rattle.kms_core.specs.Calls.{MayMake, MaySignal, fence_of, reply_at, with_fence_of};
 ghost use Rattle.kms_core.specs.Run.{gains, if_ok};
 
-use crate::freeing::account;
+use crate::freeing::{InUse, account};
 use crate::machine::Core;
 use crate::stores::{answer, join, make_room, signal_fence};
 use kms_model::{Command, NoMemory, Reply, Step, command_of};
@@ -35,19 +35,19 @@ impl Core {
         stores.freed.make_room()?;
         let crtcs = stores.script.topology.crtcs;
         let number = stores.clients.place(client).command;
-        let Some(command) = command_of(&stores.script, client, number) else {
-            unreachable!();
-        };
+        let command = command_of(&stores.script, client, number).unwrap();
         let id = stores.things.next_id();
         let reply = stores.things.execute(alloc, client, command)?;
         make_fence(alloc, &mut stores.fences, command, id);
         account(
             &mut stores.freed,
             &mut stores.things,
-            &stores.present,
-            &stores.registers,
-            &stores.tracker,
-            crtcs,
+            &InUse {
+                present: &stores.present,
+                registers: &stores.registers,
+                tracker: &stores.tracker,
+                crtcs,
+            },
             command,
             &reply,
         );

@@ -31,7 +31,7 @@ impl Core {
             &stores.tracker,
         )?;
         let number = stores.clients.place(client).command;
-        let _ = stores.queues[(client - 1) as usize].read();
+        let _event = stores.queues[(client - 1) as usize].read();
         answer(&stores.journal, &mut stores.replies, client, number, reply);
         stores.clients.go_on(client);
         stores.steps.push(Step::Read { client });

@@ -53,12 +53,15 @@ pub fn commit(
 {
     let events = events_asked_for(resolved.flags, checked.named);
     let labels = out_labels(resolved.out_fences.as_slice());
-    make_commit_room(
-        alloc,
+    make_record_room(
         &mut stores.steps,
         &mut stores.journal,
         &mut stores.replies,
         &mut stores.latches,
+        &stores.tracker,
+    )?;
+    make_tail_room(
+        alloc,
         &mut stores.fences,
         &mut stores.queues[(client - 1) as usize],
         &mut stores.tracker,
@@ -251,18 +254,14 @@ fn events_asked_for(flags: u32, named: u32) -> u32
     }
 }
 
-/// Takes all memory that a commit needs: for its records, for the steps and the latches of its tail, for its fences, for so
-/// many events, and for its tail. What is stored stays.
-fn make_commit_room(
-    alloc: Global,
+/// Takes memory for what is recorded of a commit, and for the steps and the latches of its tail, beside those that are left
+/// of all tails. What is recorded stays.
+fn make_record_room(
     steps: &mut Log<Step>,
     journal: &mut Log<(u32, u32)>,
     replies: &mut Log<Answered>,
     latches: &mut Log<Latch>,
-    fences: &mut Fences,
-    queue: &mut EventQueue,
-    tracker: &mut Tracker,
-    events: u32,
+    tracker: &Tracker,
 ) -> Result<(), NoMemory>
     ensures steps { steps.new.items ≡ steps.old.items }
     ensures journal { journal.new.items ≡ journal.old.items }
@@ -270,19 +269,13 @@ fn make_commit_room(
     ensures latches { latches.new.items ≡ latches.old.items }
     ensures steps_kept { steps.old.room ≤ steps.new.room }
     ensures latches_kept { latches.old.room ≤ latches.new.room }
-    ensures kept { KeepsStored fences.old fences.new queue.old queue.new
-        tracker.old tracker.new }
     ensures journal_room { OnOk result (0 < journal.new.room) }
     ensures replies_room { OnOk result (0 < replies.new.room) }
-    ensures steps_room { OnOk result (31 * length tracker.old.tails.slots + 32 ≤ steps.new.room) }
-    ensures latches_room { OnOk result (31 * length tracker.old.tails.slots + 31 ≤ latches.new.room) }
-    ensures fences_room { OnOk result (4 ≤ fences.new.room) }
-    ensures events_room { OnOk result (events ≤ queue.new.room) }
-    ensures commit_room { OnOk result (0 < tracker.new.tails.room) }
+    ensures steps_room { OnOk result (31 * length tracker.now.tails.slots + 32 ≤ steps.new.room) }
+    ensures latches_room { OnOk result (31 * length tracker.now.tails.slots + 31 ≤ latches.new.room) }
 {
     make_room(steps, journal, replies, tracker)?;
-    make_spare(steps, latches, tracker)?;
-    make_tail_room(alloc, fences, queue, tracker, events)
+    make_spare(steps, latches, tracker)
 }
 
 /// Takes memory for the fences of a commit, for so many events, and for its tail. What is stored stays.

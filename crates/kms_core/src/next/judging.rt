@@ -18,9 +18,11 @@ ghost use Rattle.kms_core.specs.Judging.{IsJudged, request_taken};
 ghost use Rattle.kms_core.specs.Decisions.{held_at};
 ghost use Rattle.kms_core.specs.Run.{machine};
 
+use crate::machine::Core;
+use crate::next::has_client;
 use crate::next::judgement::Judged;
 use crate::next::lookers::{Ever, Now};
-use crate::stores::{Stores, late_reply, lookups};
+use crate::stores::late_reply;
 use kms_clients::Clients;
 use kms_model::{
     Checked, Command, Doing, Kind, MAX_LOCKABLE, Mask, NoMemory, ObjId, Reply, Request, Resolved,
@@ -34,10 +36,11 @@ use std::alloc::Global;
 /// Whether a client, by its number from 1, may ask for the object of a kind with an index: it takes locks for a request
 /// that reaches the object, which is free, or which an older context holds. Any numbers may be asked for. (Kernel: "KMS
 /// Locking", `drm_modeset_lock`.)
-pub(crate) fn may_lock(stores: &Stores, client: u32, kind: Kind, index: u32) -> bool
-    ensures { result ≡ may stores.now.script (machine stores.now) (step.Lock client kind index) }
+pub(crate) fn may_lock(core: &Core, client: u32, kind: Kind, index: u32) -> bool
+    ensures { result ≡ may core.now.script (machine core.now) (step.Lock client kind index) }
 {
-    let Some(request) = request_taken(stores, client) else {
+    let stores = &*core.stores;
+    let Some(request) = request_taken(core, client) else {
         return false;
     };
     let topology = &stores.script.topology;
@@ -55,13 +58,13 @@ pub(crate) fn may_lock(stores: &Stores, client: u32, kind: Kind, index: u32) -> 
 /// due; or the client holds what the request touches, and a late refusal is due, or it is no test, and there
 /// is no space for its events or it is busy. Any number may be asked for. (Kernel: `drm_atomic_check_only`,
 /// `drm_event_reserve_init`, `drm_atomic_helper_setup_commit`.)
-pub(crate) fn may_refuse(stores: &Stores, client: u32) -> bool
-    ensures { result ≡ may stores.now.script (machine stores.now) (step.Refuse client) }
+pub(crate) fn may_refuse(core: &Core, client: u32) -> bool
+    ensures { result ≡ may core.now.script (machine core.now) (step.Refuse client) }
 {
-    let Some(request) = request_taken(stores, client) else {
+    let Some(request) = request_taken(core, client) else {
         return false;
     };
-    match judge(stores, client, request) {
+    match judge(core, client, request) {
         None => true,
         Some(judged) => judged.is_refused(is_test(request.flags)),
     }
@@ -70,13 +73,13 @@ pub(crate) fn may_refuse(stores: &Stores, client: u32) -> bool
 /// Whether the request of a client, by its number from 1, that takes locks may be told to be accepted: it is a test,
 /// the client holds what it touches, and no early or late refusal is due. Any number may be asked for. (Kernel:
 /// `drm_mode_atomic_ioctl`, `DRM_MODE_ATOMIC_TEST_ONLY`.)
-pub(crate) fn may_test(stores: &Stores, client: u32) -> bool
-    ensures { result ≡ may stores.now.script (machine stores.now) (step.Test client) }
+pub(crate) fn may_test(core: &Core, client: u32) -> bool
+    ensures { result ≡ may core.now.script (machine core.now) (step.Test client) }
 {
-    let Some(request) = request_taken(stores, client) else {
+    let Some(request) = request_taken(core, client) else {
         return false;
     };
-    match judge(stores, client, request) {
+    match judge(core, client, request) {
         None => false,
         Some(judged) => judged.is_accepted(is_test(request.flags)),
     }
@@ -86,23 +89,24 @@ pub(crate) fn may_test(stores: &Stores, client: u32) -> bool
 /// holds what it touches, no early or late refusal is due, there is space for its events, it is not busy, and its
 /// commit waits for no other. Any number may be asked for. (Kernel: `drm_atomic_helper_commit`,
 /// `drm_atomic_helper_swap_state`.)
-pub(crate) fn may_swap(stores: &Stores, client: u32) -> bool
-    ensures { result ≡ may stores.now.script (machine stores.now) (step.Swap client) }
+pub(crate) fn may_swap(core: &Core, client: u32) -> bool
+    ensures { result ≡ may core.now.script (machine core.now) (step.Swap client) }
 {
-    let Some(request) = request_taken(stores, client) else {
+    let Some(request) = request_taken(core, client) else {
         return false;
     };
-    match judge(stores, client, request) {
+    match judge(core, client, request) {
         None => false,
         Some(judged) => judged.is_committed(is_test(request.flags)),
     }
 }
 
 /// Judges the request for which a client, by its number from 1, takes locks; none where an early refusal is due.
-pub(crate) fn judge(stores: &Stores, client: u32, request: &Request) -> Option<Judged>
-    requires { Some request.now ≡ request_taken stores.now.script (machine stores.now) client }
-    ensures { IsJudged stores.now.script.topology (machine stores.now) client request.now result }
+pub(crate) fn judge(core: &Core, client: u32, request: &Request) -> Option<Judged>
+    requires { Some request.now ≡ request_taken core.now.script (machine core.now) client }
+    ensures { IsJudged core.now.script.topology (machine core.now) client request.now result }
 {
+    let stores = &*core.stores;
     let topology = &stores.script.topology;
     let found = Now(&stores.things);
     if early(topology, request, &found).is_some() {
@@ -120,18 +124,19 @@ pub(crate) fn judge(stores: &Stores, client: u32, request: &Request) -> Option<J
 }
 
 /// The reply that refuses the request for which a client, by its number from 1, takes locks, where it may be refused.
-pub fn refusal_reply(stores: &Stores, client: u32, request: &Request) -> Reply
+pub fn refusal_reply(core: &Core, client: u32, request: &Request) -> Reply
     requires taken { Some request.now
-        ≡ request_taken stores.now.script (machine stores.now) client }
-    requires refused { may stores.now.script (machine stores.now) (step.Refuse client) ≡ true }
+        ≡ request_taken core.now.script (machine core.now) client }
+    requires refused { may core.now.script (machine core.now) (step.Refuse client) ≡ true }
     ensures { result
-        ≡ refusal_reply stores.now.script.topology (machine stores.now) client request.now
-        (verdict stores.now.script.topology (machine stores.now).device.world request.now) }
+        ≡ refusal_reply core.now.script.topology (machine core.now) client request.now
+        (verdict core.now.script.topology (machine core.now).device.world request.now) }
 {
+    let stores = &*core.stores;
     if let Some(why) = early(&stores.script.topology, request, &Now(&stores.things)) {
         return Reply::Refused(why);
     }
-    let Some(judged) = judge(stores, client, request) else {
+    let Some(judged) = judge(core, client, request) else {
         unreachable!();
     };
     match (judged.late, judged.hindered) {
@@ -143,11 +148,12 @@ pub fn refusal_reply(stores: &Stores, client: u32, request: &Request) -> Reply
 
 /// Checks a request for which no early or late refusal is due: the states of all objects before it and after it, and
 /// what it names and touches.
-pub fn check_request(stores: &Stores, request: &Request) -> Checked
-    requires { early_in stores.now.script.topology (world stores.now) request.now ≡ None }
-    ensures checked { IsChecked stores.now.script.topology (world stores.now) request.now result }
+pub fn check_request(core: &Core, request: &Request) -> Checked
+    requires { early_in core.now.script.topology (world core.now) request.now ≡ None }
+    ensures checked { IsChecked core.now.script.topology (world core.now) request.now result }
     ensures states { HasStates result }
 {
+    let stores = &*core.stores;
     let states = changed(
         &stores.script.topology,
         request,
@@ -163,17 +169,14 @@ pub fn check_request(stores: &Stores, request: &Request) -> Checked
 }
 
 /// Resolves what such a request asks for.
-pub fn resolve_request(
-    stores: &Stores,
-    alloc: Global,
-    request: &Request,
-) -> Result<Resolved, NoMemory>
-    requires { early_in stores.now.script.topology (world stores.now) request.now ≡ None }
+pub fn resolve_request(core: &Core, alloc: Global, request: &Request) -> Result<Resolved, NoMemory>
+    requires { early_in core.now.script.topology (world core.now) request.now ≡ None }
     ensures { IfOk result
-        (IsResolved stores.now.script.topology (look_up (world stores.now)) request.now) }
+        (IsResolved core.now.script.topology (look_up (world core.now)) request.now) }
 {
-    let found = lookups(stores, alloc, request)?;
-    match resolve(alloc, &stores.script.topology, request, &found) {
+    core.is_a_history();
+    let found = core.lookups(alloc, request)?;
+    match resolve(alloc, &core.script().topology, request, &found) {
         Ok(resolved) => Ok(resolved),
         Err(RequestError::NoMemory) => Err(NoMemory),
         Err(RequestError::Of(_why)) => unreachable!(),
@@ -181,10 +184,11 @@ pub fn resolve_request(
 }
 
 /// The request for which a client, by its number from 1, takes locks; none where it takes none.
-pub fn request_taken(stores: &Stores, client: u32) -> Option<&Request>
-    ensures { option_copied result ≡ request_taken stores.now.script (machine stores.now) client }
+pub fn request_taken(core: &Core, client: u32) -> Option<&Request>
+    ensures { option_copied result ≡ request_taken core.now.script (machine core.now) client }
 {
-    if client == 0 || client as usize > stores.script.clients.len() {
+    let stores = &*core.stores;
+    if !has_client(core, client) {
         return None;
     }
     let place = stores.clients.place(client);

@@ -16,32 +16,31 @@ ghost use Rattle.kms_core.specs.Judging.{request_taken};
 ghost use Rattle.kms_core.specs.Order.{NeedsLocks, first_lacked, is_missing, is_open, lacks, lacks_some};
 ghost use Rattle.kms_core.specs.Run.{machine};
 
+use crate::machine::Core;
 use crate::next::groups::{Group, Needs};
 use crate::next::judging::{check_request, is_member};
 use crate::next::moving::objects;
-use crate::stores::Stores;
 use kms_clients::Clients;
 use kms_model::{Kind, ObjId, Request, Step};
 use kms_request::{affected, only_crtcs};
 
 /// The lock that a client, by its number from 1, takes next for a request.
-pub(crate) fn lock_step(stores: &Stores, client: u32, request: &Request) -> Option<Step>
+pub(crate) fn lock_step(core: &Core, client: u32, request: &Request) -> Option<Step>
     requires taken { Some request.now
-        ≡ request_taken stores.now.script (machine stores.now) client }
-    requires none { early_in stores.now.script.topology (world stores.now) request.now ≡ None }
+        ≡ request_taken core.now.script (machine core.now) client }
+    requires none { early_in core.now.script.topology (world core.now) request.now ≡ None }
     ensures { result ≡ option_map (lock_step client)
-        (next_lock stores.now.script (machine stores.now) client request.now) }
+        (next_lock core.now.script (machine core.now) client request.now) }
 {
-    // The contract of a call that reads a field may rest on what holds of the machine: here that its script is well formed.
-    let _ = &stores.script;
-    let checked = check_request(stores, request);
+    core.is_a_history();
+    let checked = check_request(core, request);
     let needs = Needs {
         request,
         named: only_crtcs(checked.named),
         affected: affected(&checked.states, checked.named),
         touched: checked.touched,
     };
-    let id = next_lock(stores, client, &needs)?;
+    let id = next_lock(core, client, &needs)?;
     Some(Step::Lock {
         client,
         kind: id.kind(),
@@ -50,27 +49,27 @@ pub(crate) fn lock_step(stores: &Stores, client: u32, request: &Request) -> Opti
 }
 
 /// The object that a client asks for next: one that it lacks, or else the first that it may ask for.
-fn next_lock(stores: &Stores, client: u32, needs: &Needs) -> Option<ObjId>
-    requires { NeedsLocks stores.now client needs.now }
+fn next_lock(core: &Core, client: u32, needs: &Needs) -> Option<ObjId>
+    requires { NeedsLocks core.now client needs.now }
     ensures { option_map (λ id. id.0) result
-        ≡ next_lock stores.now.script (machine stores.now) client needs.now.request.now }
+        ≡ next_lock core.now.script (machine core.now) client needs.now.request.now }
 {
-    let group = first_lacked(stores, client, needs);
-    match first_open(stores, client, needs, group) {
+    let group = first_lacked(core, client, needs);
+    match first_open(core, client, needs, group) {
         Some(id) => Some(id),
-        None => first_open(stores, client, needs, Group::Any),
+        None => first_open(core, client, needs, Group::Any),
     }
 }
 
 /// The first group that a client does not hold whole; the last one where it holds the first two.
-fn first_lacked(stores: &Stores, client: u32, needs: &Needs) -> Group
-    requires { NeedsLocks stores.now client needs.now }
-    ensures { result ≡ first_lacked stores.now.script.topology (machine stores.now) client
+fn first_lacked(core: &Core, client: u32, needs: &Needs) -> Group
+    requires { NeedsLocks core.now client needs.now }
+    ensures { result ≡ first_lacked core.now.script.topology (machine core.now) client
         needs.now.request.now }
 {
-    if lacks(stores, client, needs, Group::Set) {
+    if lacks(core, client, needs, Group::Set) {
         Group::Set
-    } else if lacks(stores, client, needs, Group::Named) {
+    } else if lacks(core, client, needs, Group::Named) {
         Group::Named
     } else {
         Group::Affected
@@ -78,103 +77,85 @@ fn first_lacked(stores: &Stores, client: u32, needs: &Needs) -> Group
 }
 
 /// Whether a client does not hold some object of a group.
-fn lacks(stores: &Stores, client: u32, needs: &Needs, group: Group) -> bool
-    requires { NeedsLocks stores.now client needs.now }
-    ensures { result ≡ lacks stores.now.script.topology (machine stores.now) client
+fn lacks(core: &Core, client: u32, needs: &Needs, group: Group) -> bool
+    requires { NeedsLocks core.now client needs.now }
+    ensures { result ≡ lacks core.now.script.topology (machine core.now) client
         needs.now.request.now group }
 {
-    lacks_kind(stores, client, needs, group, Kind::Crtc)
-        || lacks_kind(stores, client, needs, group, Kind::Plane)
-        || lacks_kind(stores, client, needs, group, Kind::Conn)
+    lacks_kind(core, client, needs, group, Kind::Crtc)
+        || lacks_kind(core, client, needs, group, Kind::Plane)
+        || lacks_kind(core, client, needs, group, Kind::Conn)
 }
 
 /// Whether a client does not hold some object of a kind in a group.
-fn lacks_kind(stores: &Stores, client: u32, needs: &Needs, group: Group, kind: Kind) -> bool
-    requires needs { NeedsLocks stores.now client needs.now }
+fn lacks_kind(core: &Core, client: u32, needs: &Needs, group: Group, kind: Kind) -> bool
+    requires needs { NeedsLocks core.now client needs.now }
     requires kind { kind ≢ Enc }
-    ensures { result ≡ lacks_some stores.now.script.topology (machine stores.now) client
+    ensures { result ≡ lacks_some core.now.script.topology (machine core.now) client
         needs.now.request.now group kind }
 {
-    (0..objects(stores, kind)).any(|index| is_missing(stores, client, needs, group, kind, index))
+    (0..objects(core, kind)).any(|index| is_missing(core, client, needs, group, kind, index))
 }
 
 /// The first object of a group that a client does not hold and may ask for.
-fn first_open(stores: &Stores, client: u32, needs: &Needs, group: Group) -> Option<ObjId>
-    requires { NeedsLocks stores.now client needs.now }
-    ensures { option_map (λ id. id.0) result ≡ find (is_open stores.now.script (machine stores.now)
-        client needs.now.request.now group) (lockable stores.now.script.topology) }
+fn first_open(core: &Core, client: u32, needs: &Needs, group: Group) -> Option<ObjId>
+    requires { NeedsLocks core.now client needs.now }
+    ensures { option_map (λ id. id.0) result ≡ find (is_open core.now.script (machine core.now)
+        client needs.now.request.now group) (lockable core.now.script.topology) }
 {
-    if let Some(index) = first_of_kind(stores, client, needs, group, Kind::Crtc) {
+    if let Some(index) = first_of_kind(core, client, needs, group, Kind::Crtc) {
         return Some(ObjId::of(Kind::Crtc, index));
     }
-    if let Some(index) = first_of_kind(stores, client, needs, group, Kind::Plane) {
+    if let Some(index) = first_of_kind(core, client, needs, group, Kind::Plane) {
         return Some(ObjId::of(Kind::Plane, index));
     }
-    let index = first_of_kind(stores, client, needs, group, Kind::Conn)?;
+    let index = first_of_kind(core, client, needs, group, Kind::Conn)?;
     Some(ObjId::of(Kind::Conn, index))
 }
 
 /// The index of the first such object of a kind.
-fn first_of_kind(
-    stores: &Stores,
-    client: u32,
-    needs: &Needs,
-    group: Group,
-    kind: Kind,
-) -> Option<u32>
-    requires needs { NeedsLocks stores.now client needs.now }
+fn first_of_kind(core: &Core, client: u32, needs: &Needs, group: Group, kind: Kind) -> Option<u32>
+    requires needs { NeedsLocks core.now client needs.now }
     requires kind { kind ≢ Enc }
-    ensures first { result ≡ find (λ index. is_open stores.now.script (machine stores.now) client
+    ensures first { result ≡ find (λ index. is_open core.now.script (machine core.now) client
         needs.now.request.now group (object_id kind index))
-        (range_with_len 0 (count_of stores.now.script.topology kind)) }
+        (range_with_len 0 (count_of core.now.script.topology kind)) }
     ensures few { IfSome result (λ index. index < 16) }
 {
-    (0..objects(stores, kind)).find(|index| is_open(stores, client, needs, group, kind, *index))
+    (0..objects(core, kind)).find(|index| is_open(core, client, needs, group, kind, *index))
 }
 
 /// Whether an object of the device is in a group, and a client does not hold it.
-fn is_missing(
-    stores: &Stores,
-    client: u32,
-    needs: &Needs,
-    group: Group,
-    kind: Kind,
-    index: u32,
-) -> bool
-    requires needs { NeedsLocks stores.now client needs.now }
-    requires lockable { is_lockable stores.now.script.topology kind index ≡ true }
-    ensures { result ≡ is_missing stores.now.script.topology (machine stores.now) client
+fn is_missing(core: &Core, client: u32, needs: &Needs, group: Group, kind: Kind, index: u32) -> bool
+    requires needs { NeedsLocks core.now client needs.now }
+    requires lockable { is_lockable core.now.script.topology kind index ≡ true }
+    ensures { result ≡ is_missing core.now.script.topology (machine core.now) client
         needs.now.request.now group (object_id kind index) }
 {
+    let stores = &*core.stores;
     needs.has(group, kind, index) && !holds(&stores.clients, client, ObjId::of(kind, index))
 }
 
 /// Whether a client may moreover ask for it.
-fn is_open(
-    stores: &Stores,
-    client: u32,
-    needs: &Needs,
-    group: Group,
-    kind: Kind,
-    index: u32,
-) -> bool
-    requires needs { NeedsLocks stores.now client needs.now }
-    requires lockable { is_lockable stores.now.script.topology kind index ≡ true }
-    ensures { result ≡ is_open stores.now.script (machine stores.now) client
+fn is_open(core: &Core, client: u32, needs: &Needs, group: Group, kind: Kind, index: u32) -> bool
+    requires needs { NeedsLocks core.now client needs.now }
+    requires lockable { is_lockable core.now.script.topology kind index ≡ true }
+    ensures { result ≡ is_open core.now.script (machine core.now) client
         needs.now.request.now group (object_id kind index) }
 {
-    is_missing(stores, client, needs, group, kind, index)
-        && is_allowed(stores, client, needs, kind, index)
+    is_missing(core, client, needs, group, kind, index)
+        && is_allowed(core, client, needs, kind, index)
 }
 
 /// Whether a client may ask for an object of the device: its request touches it, and it is free, or an older context
 /// holds it.
-fn is_allowed(stores: &Stores, client: u32, needs: &Needs, kind: Kind, index: u32) -> bool
-    requires needs { NeedsLocks stores.now client needs.now }
-    requires lockable { is_lockable stores.now.script.topology kind index ≡ true }
+fn is_allowed(core: &Core, client: u32, needs: &Needs, kind: Kind, index: u32) -> bool
+    requires needs { NeedsLocks core.now client needs.now }
+    requires lockable { is_lockable core.now.script.topology kind index ≡ true }
     ensures { result
-        ≡ may_lock stores.now.script (machine stores.now) client (object_id kind index) }
+        ≡ may_lock core.now.script (machine core.now) client (object_id kind index) }
 {
+    let stores = &*core.stores;
     is_member(&needs.touched, kind, index)
         && stores
             .clients

@@ -7,14 +7,13 @@ ghost use Rattle.kms_core.specs.Run.{machine};
 
 use crate::machine::Core;
 use crate::next::client_steps::{
-    is_at_end, may_back_off, may_begin, may_make, may_read, may_relock, may_return, may_signal,
+    may_back_off, may_begin, may_make, may_read, may_relock, may_return, may_signal,
 };
 use crate::next::judging::{may_lock, may_refuse, may_swap, may_test};
 use crate::next::moving::can_move;
 use crate::next::tail_steps::{
     may_be_done, may_blank, may_claim, may_clean_up, may_flush, may_write,
 };
-use crate::stores::Stores;
 use kms_model::Step;
 
 impl Core {
@@ -25,7 +24,7 @@ impl Core {
         let stores = &*self.stores;
         match *step {
             Step::Stall => !stores.stalled && self.is_dead(),
-            _ => !stores.stalled && may(stores, step),
+            _ => !stores.stalled && may(self, step),
         }
     }
 
@@ -35,7 +34,7 @@ impl Core {
         ensures { result ≡ is_enabled self.now.script (machine self.now) }
     {
         let stores = &*self.stores;
-        !stores.stalled && can_move(stores)
+        !stores.stalled && can_move(self)
     }
 
     /// Whether every client is at its end, with no command left, and every commit is cleaned.
@@ -43,7 +42,7 @@ impl Core {
         ensures { result ≡ is_drained self.now.script (machine self.now) }
     {
         let stores = &*self.stores;
-        are_at_end(stores) && stores.tracker.first_from(0).is_none()
+        are_at_end(self) && stores.tracker.first_from(0).is_none()
     }
 
     /// Whether the history is dead: not drained, and no step is legal but vblanks of CRTCs that do not go; also
@@ -57,12 +56,13 @@ impl Core {
 }
 
 /// Whether every client is at its end.
-fn are_at_end(stores: &Stores) -> bool
-    ensures { result ≡ list_all (is_at_end stores.now.script (machine stores.now))
-        (client_numbers stores.now.script) }
+fn are_at_end(core: &Core) -> bool
+    ensures { result ≡ list_all (is_at_end core.now.script (machine core.now))
+        (client_numbers core.now.script) }
 {
-    for client in 0..stores.script.clients.len() as u32 {
-        if !is_at_end(stores, client + 1) {
+    core.is_a_history();
+    for client in 0..core.script().clients.len() as u32 {
+        if !core.is_at_end(client + 1) {
             return false;
         }
     }
@@ -70,39 +70,39 @@ fn are_at_end(stores: &Stores) -> bool
 }
 
 /// Whether a step is legal while the history goes on; its end is not.
-fn may(stores: &Stores, step: &Step) -> bool
-    ensures { result ≡ may stores.now.script (machine stores.now) step.now }
+fn may(core: &Core, step: &Step) -> bool
+    ensures { result ≡ may core.now.script (machine core.now) step.now }
 {
     match *step {
-        Step::Begin { client } => may_begin(stores, client),
+        Step::Begin { client } => may_begin(core, client),
         Step::Lock {
             client,
             kind,
             index,
-        } => may_lock(stores, client, kind, index),
-        Step::BackOff { client } => may_back_off(stores, client),
-        Step::Relock { client } => may_relock(stores, client),
-        Step::Refuse { client } => may_refuse(stores, client),
-        Step::Test { client } => may_test(stores, client),
-        Step::Swap { client } => may_swap(stores, client),
-        Step::Make { client } => may_make(stores, client),
-        Step::Signal { client } => may_signal(stores, client),
-        Step::Claim { commit } => may_claim(stores, commit),
+        } => may_lock(core, client, kind, index),
+        Step::BackOff { client } => may_back_off(core, client),
+        Step::Relock { client } => may_relock(core, client),
+        Step::Refuse { client } => may_refuse(core, client),
+        Step::Test { client } => may_test(core, client),
+        Step::Swap { client } => may_swap(core, client),
+        Step::Make { client } => may_make(core, client),
+        Step::Signal { client } => may_signal(core, client),
+        Step::Claim { commit } => may_claim(core, commit),
         Step::Write {
             commit,
             kind,
             index,
-        } => may_write(stores, commit, kind, index),
+        } => may_write(core, commit, kind, index),
         Step::Flush {
             commit,
             kind,
             index,
-        } => may_flush(stores, commit, kind, index),
-        Step::HwDone { commit } => may_be_done(stores, commit),
-        Step::Vblank { kind, index } => may_blank(stores, kind, index),
-        Step::Cleanup { commit } => may_clean_up(stores, commit),
-        Step::Read { client } => may_read(stores, client),
-        Step::Return { client } => may_return(stores, client),
+        } => may_flush(core, commit, kind, index),
+        Step::HwDone { commit } => may_be_done(core, commit),
+        Step::Vblank { kind, index } => may_blank(core, kind, index),
+        Step::Cleanup { commit } => may_clean_up(core, commit),
+        Step::Read { client } => may_read(core, client),
+        Step::Return { client } => may_return(core, client),
         Step::Stall => false,
     }
 }

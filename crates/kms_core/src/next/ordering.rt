@@ -10,7 +10,6 @@ use crate::next::client_steps::{
 };
 use crate::next::judging::{judge, request_taken};
 use crate::next::lacking::lock_step;
-use crate::stores::Stores;
 use kms_model::{Request, Step};
 use kms_props::is_test;
 
@@ -29,30 +28,30 @@ impl Core {
         if stores.stalled {
             return None;
         }
-        match request_taken(stores, client) {
-            Some(request) => taking_step(stores, client, request),
-            None => other_step(stores, client),
+        match request_taken(self, client) {
+            Some(request) => taking_step(self, client, request),
+            None => other_step(self, client),
         }
     }
 }
 
 /// The next step of a client that takes no locks: what its command is, or what is next of its context.
-fn other_step(stores: &Stores, client: u32) -> Option<Step>
-    requires going { (machine stores.now).stalled ≡ false }
-    requires none { request_taken stores.now.script (machine stores.now) client ≡ None }
-    ensures { result ≡ client_step stores.now.script (machine stores.now) client }
+fn other_step(core: &Core, client: u32) -> Option<Step>
+    requires going { (machine core.now).stalled ≡ false }
+    requires none { request_taken core.now.script (machine core.now) client ≡ None }
+    ensures { result ≡ client_step core.now.script (machine core.now) client }
 {
-    if may_begin(stores, client) {
+    if may_begin(core, client) {
         Some(Step::Begin { client })
-    } else if may_make(stores, client) {
+    } else if may_make(core, client) {
         Some(Step::Make { client })
-    } else if may_signal(stores, client) {
+    } else if may_signal(core, client) {
         Some(Step::Signal { client })
-    } else if may_read(stores, client) {
+    } else if may_read(core, client) {
         Some(Step::Read { client })
-    } else if may_back_off(stores, client) {
+    } else if may_back_off(core, client) {
         Some(Step::BackOff { client })
-    } else if may_relock(stores, client) {
+    } else if may_relock(core, client) {
         Some(Step::Relock { client })
     } else {
         None
@@ -60,13 +59,13 @@ fn other_step(stores: &Stores, client: u32) -> Option<Step>
 }
 
 /// The next step of a client that takes locks for a request. The request is judged once.
-fn taking_step(stores: &Stores, client: u32, request: &Request) -> Option<Step>
-    requires going { (machine stores.now).stalled ≡ false }
+fn taking_step(core: &Core, client: u32, request: &Request) -> Option<Step>
+    requires going { (machine core.now).stalled ≡ false }
     requires taken { Some request.now
-        ≡ request_taken stores.now.script (machine stores.now) client }
-    ensures { result ≡ client_step stores.now.script (machine stores.now) client }
+        ≡ request_taken core.now.script (machine core.now) client }
+    ensures { result ≡ client_step core.now.script (machine core.now) client }
 {
-    let Some(judged) = judge(stores, client, request) else {
+    let Some(judged) = judge(core, client, request) else {
         return Some(Step::Refuse { client });
     };
     let is_test = is_test(request.flags);
@@ -77,6 +76,6 @@ fn taking_step(stores: &Stores, client: u32, request: &Request) -> Option<Step>
     } else if judged.is_committed(is_test) {
         Some(Step::Swap { client })
     } else {
-        lock_step(stores, client, request)
+        lock_step(core, client, request)
     }
 }

@@ -12,8 +12,7 @@ ghost use Rattle.kms_core.specs.Run.{machine};
 
 use crate::machine::Core;
 use crate::next::moving::objects;
-use crate::next::tail_steps::{has_go, may_be_done, may_claim, may_clean_up, may_flush, may_write};
-use crate::stores::Stores;
+use crate::next::tail_steps::{may_be_done, may_claim, may_clean_up, may_flush, may_write};
 use kms_model::{Kind, Step};
 
 impl Core {
@@ -26,21 +25,22 @@ impl Core {
         if stores.stalled {
             return None;
         }
-        match first_of_tails(stores) {
+        match first_of_tails(self) {
             Some(step) => Some(step),
-            None => first_blanking(stores),
+            None => first_blanking(self),
         }
     }
 }
 
 /// The first step of the least commit that has one. Those that are cleaned have none.
-fn first_of_tails(stores: &Stores) -> Option<Step>
-    ensures { result ≡ first_some (λ k. find (may stores.now.script (machine stores.now))
-        (steps_of_commit stores.now.script.topology k)) (commit_numbers (machine stores.now)) }
+fn first_of_tails(core: &Core) -> Option<Step>
+    ensures { result ≡ first_some (λ k. find (may core.now.script (machine core.now))
+        (steps_of_commit core.now.script.topology k)) (commit_numbers (machine core.now)) }
 {
+    let stores = &*core.stores;
     let mut from = 0;
     'seeking: while let Some(commit) = stores.tracker.first_from(from) {
-        if let Some(step) = first_of_tail(stores, commit) {
+        if let Some(step) = first_of_tail(core, commit) {
             return Some(step);
         }
         from = commit + 1;
@@ -50,55 +50,55 @@ fn first_of_tails(stores: &Stores) -> Option<Step>
 
 /// The first step of the tail of a commit: its claim, the writes of its CRTCs and then of its planes, its flushes, and
 /// then the end of writing, or the clean-up.
-fn first_of_tail(stores: &Stores, commit: u32) -> Option<Step>
-    ensures { result ≡ find (may stores.now.script (machine stores.now))
-        (steps_of_commit stores.now.script.topology commit) }
+fn first_of_tail(core: &Core, commit: u32) -> Option<Step>
+    ensures { result ≡ find (may core.now.script (machine core.now))
+        (steps_of_commit core.now.script.topology commit) }
 {
-    if may_claim(stores, commit) {
+    if may_claim(core, commit) {
         return Some(Step::Claim { commit });
     }
-    if let Some(index) = first_write(stores, commit, Kind::Crtc) {
+    if let Some(index) = first_write(core, commit, Kind::Crtc) {
         return Some(write(commit, Kind::Crtc, index));
     }
-    if let Some(index) = first_write(stores, commit, Kind::Plane) {
+    if let Some(index) = first_write(core, commit, Kind::Plane) {
         return Some(write(commit, Kind::Plane, index));
     }
-    if let Some(index) = first_flush(stores, commit) {
+    if let Some(index) = first_flush(core, commit) {
         return Some(Step::Flush {
             commit,
             kind: Kind::Crtc,
             index,
         });
     }
-    end_of_tail(stores, commit)
+    end_of_tail(core, commit)
 }
 
 /// The index of the first object of a kind that a commit may write.
-fn first_write(stores: &Stores, commit: u32, kind: Kind) -> Option<u32>
+fn first_write(core: &Core, commit: u32, kind: Kind) -> Option<u32>
     ensures { result ≡ find
-        (λ index. may stores.now.script (machine stores.now) (step.Write commit kind index))
-        (range_with_len 0 (count_of stores.now.script.topology kind)) }
+        (λ index. may core.now.script (machine core.now) (step.Write commit kind index))
+        (range_with_len 0 (count_of core.now.script.topology kind)) }
 {
-    (0..objects(stores, kind)).find(|index| may_write(stores, commit, kind, *index))
+    (0..objects(core, kind)).find(|index| may_write(core, commit, kind, *index))
 }
 
 /// The index of the first CRTC that a commit may flush.
-fn first_flush(stores: &Stores, commit: u32) -> Option<u32>
+fn first_flush(core: &Core, commit: u32) -> Option<u32>
     ensures { result ≡ find
-        (λ index. may stores.now.script (machine stores.now) (step.Flush commit Crtc index))
-        (range_with_len 0 (count_of stores.now.script.topology Crtc)) }
+        (λ index. may core.now.script (machine core.now) (step.Flush commit Crtc index))
+        (range_with_len 0 (count_of core.now.script.topology Crtc)) }
 {
-    (0..objects(stores, Kind::Crtc)).find(|index| may_flush(stores, commit, Kind::Crtc, *index))
+    (0..objects(core, Kind::Crtc)).find(|index| may_flush(core, commit, Kind::Crtc, *index))
 }
 
 /// The end of writing, or the clean-up, of a commit.
-fn end_of_tail(stores: &Stores, commit: u32) -> Option<Step>
-    ensures { result ≡ find (may stores.now.script (machine stores.now))
+fn end_of_tail(core: &Core, commit: u32) -> Option<Step>
+    ensures { result ≡ find (may core.now.script (machine core.now))
         (step.HwDone commit ∷ step.Cleanup commit ∷ []) }
 {
-    if may_be_done(stores, commit) {
+    if may_be_done(core, commit) {
         Some(Step::HwDone { commit })
-    } else if may_clean_up(stores, commit) {
+    } else if may_clean_up(core, commit) {
         Some(Step::Cleanup { commit })
     } else {
         None
@@ -106,12 +106,13 @@ fn end_of_tail(stores: &Stores, commit: u32) -> Option<Step>
 }
 
 /// The vblank of the first CRTC that has GO.
-fn first_blanking(stores: &Stores) -> Option<Step>
-    ensures { result ≡ find (may stores.now.script (machine stores.now))
-        (steps_with_go stores.now.script.topology (machine stores.now)) }
+fn first_blanking(core: &Core) -> Option<Step>
+    ensures { result ≡ find (may core.now.script (machine core.now))
+        (steps_with_go core.now.script.topology (machine core.now)) }
 {
+    let stores = &*core.stores;
     for index in 0..stores.script.topology.crtcs {
-        if has_go(stores, index) {
+        if core.has_go(index) {
             return Some(Step::Vblank {
                 kind: Kind::Crtc,
                 index,

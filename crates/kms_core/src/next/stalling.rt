@@ -9,7 +9,7 @@ ghost use Rattle.kms_core.specs.Next.{IsLegal, if_awaited};
 ghost use Rattle.kms_core.specs.Run.{machine, gains, if_ok};
 
 use crate::machine::Core;
-use crate::stores::{Stores, make_step_room};
+use crate::stores::make_step_room;
 use kms_model::{Content, NoMemory, Step};
 
 impl Core {
@@ -31,33 +31,34 @@ impl Core {
     pub fn stalled_on(&self) -> Option<u32>
         ensures { result ≡ stalled_on self.now.script (machine self.now) }
     {
-        let stores = &*self.stores;
         if !self.is_dead() {
             return None;
         }
-        match awaited_fence(stores) {
-            Some(fence) => label_of(stores, fence),
+        match awaited_fence(self) {
+            Some(fence) => label_of(self, fence),
             None => None,
         }
     }
 }
 
 /// The label of the thing with an id.
-fn label_of(stores: &Stores, id: u32) -> Option<u32>
+fn label_of(core: &Core, id: u32) -> Option<u32>
     ensures { result ≡ label_of_thing
-        (thing_with_id (machine stores.now).device.world.things id) }
+        (thing_with_id (machine core.now).device.world.things id) }
 {
+    let stores = &*core.stores;
     Some(stores.things.with_id(id)?.label)
 }
 
 /// The first such fence of the least commit that has one.
-fn awaited_fence(stores: &Stores) -> Option<u32>
-    ensures { result ≡ first_some (awaited_by stores.now.script.topology (machine stores.now))
-        (commit_numbers (machine stores.now)) }
+fn awaited_fence(core: &Core) -> Option<u32>
+    ensures { result ≡ first_some (awaited_by core.now.script.topology (machine core.now))
+        (commit_numbers (machine core.now)) }
 {
+    let stores = &*core.stores;
     let mut from = 0;
     'seeking: while let Some(commit) = stores.tracker.first_from(from) {
-        if let Some(fence) = fence_awaited_by(stores, commit) {
+        if let Some(fence) = fence_awaited_by(core, commit) {
             return Some(fence);
         }
         from = commit + 1;
@@ -66,22 +67,23 @@ fn awaited_fence(stores: &Stores) -> Option<u32>
 }
 
 /// The first such fence that a commit, which is not claimed, waits for.
-fn fence_awaited_by(stores: &Stores, commit: u32) -> Option<u32>
-    requires { commit < length (machine stores.now).device.commits }
-    ensures { result ≡ awaited_by stores.now.script.topology (machine stores.now) commit }
+fn fence_awaited_by(core: &Core, commit: u32) -> Option<u32>
+    requires { commit < length (machine core.now).device.commits }
+    ensures { result ≡ awaited_by core.now.script.topology (machine core.now) commit }
 {
+    let stores = &*core.stores;
     match stores.tracker.get(commit) {
-        Some(tail) if !tail.progress.claimed => first_awaited(stores, &tail.in_fences),
+        Some(tail) if !tail.progress.claimed => first_awaited(core, &tail.in_fences),
         _ => None,
     }
 }
 
 /// The first fence, of those at their places, that a `fence` made and that is not signalled.
-fn first_awaited(stores: &Stores, fences: &[Option<u32>; 16]) -> Option<u32>
-    ensures { result ≡ find (is_awaited (machine stores.now)) (fence_ids fences.now) }
+fn first_awaited(core: &Core, fences: &[Option<u32>; 16]) -> Option<u32>
+    ensures { result ≡ find (is_awaited (machine core.now)) (fence_ids fences.now) }
 {
     for fence in fences {
-        if let Some(id) = keep_if_awaited(stores, *fence) {
+        if let Some(id) = keep_if_awaited(core, *fence) {
             return Some(id);
         }
     }
@@ -89,19 +91,20 @@ fn first_awaited(stores: &Stores, fences: &[Option<u32>; 16]) -> Option<u32>
 }
 
 /// A fence, if any, that a `fence` made and that is not signalled.
-fn keep_if_awaited(stores: &Stores, fence: Option<u32>) -> Option<u32>
-    ensures { result ≡ if_awaited (machine stores.now) fence }
+fn keep_if_awaited(core: &Core, fence: Option<u32>) -> Option<u32>
+    ensures { result ≡ if_awaited (machine core.now) fence }
 {
     match fence {
-        Some(id) if is_awaited(stores, id) => Some(id),
+        Some(id) if is_awaited(core, id) => Some(id),
         _ => None,
     }
 }
 
 /// Whether a `fence` made the fence with an id, and it is not signalled.
-fn is_awaited(stores: &Stores, fence: u32) -> bool
-    ensures { result ≡ is_awaited (machine stores.now) fence }
+fn is_awaited(core: &Core, fence: u32) -> bool
+    ensures { result ≡ is_awaited (machine core.now) fence }
 {
+    let stores = &*core.stores;
     let Some(thing) = stores.things.with_id(fence) else {
         return false;
     };

@@ -11,23 +11,25 @@ ghost use Rattle.kms_track.specs.Tails.{next_flush_of};
 ghost use Rattle.kms_core.specs.Next.{ends_next, flushes_next, is_over_tail, writes_next};
 ghost use Rattle.kms_core.specs.Run.{machine};
 
-use crate::stores::Stores;
+use crate::machine::Core;
 use kms_model::{Kind, ObjId, Topology};
 use kms_request::exists;
 use kms_track::Tail;
 
 /// Whether the tail of a commit, by its number from 0, may begin: it is not claimed, the fences that it waits for are
 /// signalled, and the commit before it on each object that it touches is done and has flipped there.
-pub(crate) fn may_claim(stores: &Stores, commit: u32) -> bool
-    ensures { result ≡ may stores.now.script (machine stores.now) (step.Claim commit) }
+pub(crate) fn may_claim(core: &Core, commit: u32) -> bool
+    ensures { result ≡ may core.now.script (machine core.now) (step.Claim commit) }
 {
+    let stores = &*core.stores;
     stores.tracker.ready(commit, &stores.fences)
 }
 
 /// Whether the object is the CRTC or the plane that a claimed commit, by its number from 0, writes next.
-pub(crate) fn may_write(stores: &Stores, commit: u32, kind: Kind, index: u32) -> bool
-    ensures { result ≡ may stores.now.script (machine stores.now) (step.Write commit kind index) }
+pub(crate) fn may_write(core: &Core, commit: u32, kind: Kind, index: u32) -> bool
+    ensures { result ≡ may core.now.script (machine core.now) (step.Write commit kind index) }
 {
+    let stores = &*core.stores;
     match stores.tracker.get(commit) {
         Some(tail) => writes_next(tail, &stores.script.topology, kind, index),
         None => false,
@@ -36,9 +38,10 @@ pub(crate) fn may_write(stores: &Stores, commit: u32, kind: Kind, index: u32) ->
 
 /// Whether the object is the CRTC that a commit, by its number from 0, which has written all its registers, flushes
 /// next.
-pub(crate) fn may_flush(stores: &Stores, commit: u32, kind: Kind, index: u32) -> bool
-    ensures { result ≡ may stores.now.script (machine stores.now) (step.Flush commit kind index) }
+pub(crate) fn may_flush(core: &Core, commit: u32, kind: Kind, index: u32) -> bool
+    ensures { result ≡ may core.now.script (machine core.now) (step.Flush commit kind index) }
 {
+    let stores = &*core.stores;
     match stores.tracker.get(commit) {
         Some(tail) => flushes_next(tail, &stores.script.topology, kind, index),
         None => false,
@@ -46,9 +49,10 @@ pub(crate) fn may_flush(stores: &Stores, commit: u32, kind: Kind, index: u32) ->
 }
 
 /// Whether a claimed commit, by its number from 0, has written and flushed all its registers, and this was not told.
-pub(crate) fn may_be_done(stores: &Stores, commit: u32) -> bool
-    ensures { result ≡ may stores.now.script (machine stores.now) (step.HwDone commit) }
+pub(crate) fn may_be_done(core: &Core, commit: u32) -> bool
+    ensures { result ≡ may core.now.script (machine core.now) (step.HwDone commit) }
 {
+    let stores = &*core.stores;
     match stores.tracker.get(commit) {
         Some(tail) => ends_next(tail),
         None => false,
@@ -56,9 +60,10 @@ pub(crate) fn may_be_done(stores: &Stores, commit: u32) -> bool
 }
 
 /// Whether a commit, by its number from 0, is done, has latched at each CRTC that it names, and is not cleaned.
-pub(crate) fn may_clean_up(stores: &Stores, commit: u32) -> bool
-    ensures { result ≡ may stores.now.script (machine stores.now) (step.Cleanup commit) }
+pub(crate) fn may_clean_up(core: &Core, commit: u32) -> bool
+    ensures { result ≡ may core.now.script (machine core.now) (step.Cleanup commit) }
 {
+    let stores = &*core.stores;
     match stores.tracker.get(commit) {
         Some(tail) => is_over_tail(tail),
         None => false,
@@ -66,27 +71,21 @@ pub(crate) fn may_clean_up(stores: &Stores, commit: u32) -> bool
 }
 
 /// Whether the object is a CRTC of the device that goes, or that is on in its live registers.
-pub(crate) fn may_blank(stores: &Stores, kind: Kind, index: u32) -> bool
-    ensures { result ≡ may stores.now.script (machine stores.now) (step.Vblank kind index) }
+pub(crate) fn may_blank(core: &Core, kind: Kind, index: u32) -> bool
+    ensures { result ≡ may core.now.script (machine core.now) (step.Vblank kind index) }
 {
-    is_crtc_of(&stores.script.topology, kind, index) && is_running(stores, index)
+    let stores = &*core.stores;
+    is_crtc_of(&stores.script.topology, kind, index) && is_running(core, index)
 }
 
 /// Whether the CRTC with an index, from 0 to 3, goes, or is on in its live registers.
-fn is_running(stores: &Stores, crtc: u32) -> bool
+fn is_running(core: &Core, crtc: u32) -> bool
     requires { crtc < 4 }
-    ensures { result ≡ (is_some (go_at (machine stores.now).device (object_id Crtc crtc))
-        || is_on_in (machine stores.now).device.live (object_id Crtc crtc)) }
+    ensures { result ≡ (is_some (go_at (machine core.now).device (object_id Crtc crtc))
+        || is_on_in (machine core.now).device.live (object_id Crtc crtc)) }
 {
-    has_go(stores, crtc) || stores.registers.is_on(crtc)
-}
-
-/// Whether the CRTC with an index, from 0 to 3, latches a commit at its next vblank.
-pub fn has_go(stores: &Stores, crtc: u32) -> bool
-    requires { crtc < 4 }
-    ensures { result ≡ is_some (go_at (machine stores.now).device (object_id Crtc crtc)) }
-{
-    stores.goes[crtc as usize].is_some()
+    let stores = &*core.stores;
+    core.has_go(crtc) || stores.registers.is_on(crtc)
 }
 
 /// Whether the object of a kind with an index is a CRTC of a device.

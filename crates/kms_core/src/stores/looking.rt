@@ -1,16 +1,13 @@
 //! What a request that is decided rests on: the client of a ticket, and what labels name now.
 ghost use Rattle.std.specs.Prelude.{◌≡◌, ◌<◌, ◌↔◌, IfOk, IsTrue};
 ghost use Rattle.kms_model.specs.Device.World.{thing_labelled};
-ghost use Rattle.kms_model.specs.Request.Lookups.{look_of, lookups};
+ghost use Rattle.kms_model.specs.Request.Lookups.{look_of};
 ghost use Rattle.kms_core.specs.declared.stores.looking.Decided.TheVariants as decided;
-ghost use Rattle.kms_core.specs.Decisions.{IsFirstStale, labels_of, looks_at, taker_at, taker_in, world};
+ghost use Rattle.kms_core.specs.Decisions.{IsFirstStale, labels_of, looks_at, taker_at, taker_in};
 ghost use Rattle.kms_clients.specs.Standing.{doing_in};
 
-use crate::stores::Stores;
 use kms_clients::Clients;
-use kms_model::{
-    Assign, Doing, Look, Lookups, MAX_CLIENTS, NoMemory, ObjId, Reply, Request, Ticket, Value,
-};
+use kms_model::{Assign, Doing, Look, Lookups, MAX_CLIENTS, NoMemory, ObjId, Reply, Ticket, Value};
 use kms_things::Things;
 use std::alloc::Global;
 
@@ -56,14 +53,6 @@ pub struct Stale {
     pub now: Look,
 }
 
-/// For each label that a request names, what it names now. The only error is want of memory.
-pub fn lookups(stores: &Stores, alloc: Global, request: &Request) -> Result<Lookups, NoMemory>
-    ensures { IfOk result (λ found.
-        found ≡ lookups (world stores.now) request.now) }
-{
-    look_ups(alloc, &stores.things, request.assigns.as_slice())
-}
-
 impl Stale {
     /// What is answered where it is the first.
     pub fn again(self) -> Decided
@@ -77,8 +66,8 @@ impl Stale {
     }
 }
 
-/// For each label that assignments name, what it names among things.
-fn look_ups(alloc: Global, things: &Things, assigns: &[Assign]) -> Result<Lookups, NoMemory>
+/// For each label that assignments name, what it names among things. The only error is want of memory.
+pub fn look_ups(alloc: Global, things: &Things, assigns: &[Assign]) -> Result<Lookups, NoMemory>
     ensures { IfOk result (λ found. found ≡ looks_at things.now.things (labels_of assigns.now)) }
 {
     let mut found = Lookups::new(alloc);

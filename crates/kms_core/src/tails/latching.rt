@@ -6,25 +6,46 @@ ghost use Rattle.kms_model.specs.declared.replies.Step.TheVariants as step;
 ghost use Rattle.kms_model.specs.Device.Objects.{object_id};
 ghost use Rattle.kms_model.specs.Machine.State.{DeviceState, count_at};
 ghost use Rattle.kms_regs.specs.File.{StandsForDevice};
-ghost use Rattle.kms_core.specs.Freeing.{AreRising, framebuffers_in};
-ghost use Rattle.kms_core.specs.Stored.{AreHeld};
-ghost use Rattle.kms_track.specs.declared.progress.Mark.TheVariants as mark;
-ghost use Rattle.kms_track.specs.Tracking.{marked};
 ghost use Rattle.kms_core.specs.Latching.{IsLatching, LatchIsTold, MayBlank, MayFlush, event_told, goes_at, told_if};
-ghost use Rattle.kms_core.specs.Needs.{Frees};
 ghost use Rattle.kms_core.specs.Run.{gains, if_ok};
 ghost use Rattle.kms_core.specs.Stands.{queue_of};
-ghost use Rattle.kms_core.specs.Work.{AreFewCommits};
 
-use crate::freeing::{free, shown_ids};
-use crate::lists::Ledger;
+use crate::freeing::{InUse, free, shown_ids};
 use crate::machine::Core;
 use crate::stores::{make_step_room, signal_fence};
-use kms_model::{Duplicates, Kind, Latch, NoMemory, ObjId, Picture, Step};
+use kms_model::{Kind, Latch, NoMemory, ObjId, Picture, Step};
 use kms_regs::RegFile;
 use kms_signal::{EventQueue, Fences, flip_event};
-use kms_things::Things;
 use kms_track::{Tail, Tracker};
+
+/// Latches, at a CRTC, the picture of a commit that the registers tell at a flush or a vblank, and frees what only the picture
+/// before needed. It is no function: between these calls the stores stand for no history, so that none can take them.
+macro_rules! latch_picture {
+    ($stores:ident, $call:ident, $crtc:ident, $commit:ident) => {{
+        let before = $stores.registers.live_layers($crtc);
+        let ids_before = shown_ids(before.as_slice());
+        let picture = $stores.registers.$call($crtc).unwrap();
+        let shown = latch_of(&$stores.registers, $crtc, $commit, picture);
+        latch(
+            &mut $stores.tracker,
+            &mut $stores.fences,
+            &mut $stores.queues,
+            &shown,
+        );
+        free(
+            &mut $stores.freed,
+            &mut $stores.things,
+            &InUse {
+                present: &$stores.present,
+                registers: &$stores.registers,
+                tracker: &$stores.tracker,
+                crtcs: $stores.script.topology.crtcs,
+            },
+            ids_before.as_slice(),
+        );
+        $stores.latches.push(shown);
+    }};
+}
 
 impl Core {
     /// Flushes the CRTC with an index, from 0 to 3, for the commit, by its number from 0, that flushes it next. A CRTC that
@@ -46,25 +67,7 @@ impl Core {
             stores.goes[crtc as usize] = Some(commit);
             return;
         }
-        let before = stores.registers.live_layers(crtc);
-        let ids_before = shown_ids(before.as_slice());
-        let Some(picture) = stores.registers.flush(crtc) else {
-            unreachable!();
-        };
-        let shown = latch_of(&stores.registers, crtc, commit, picture);
-        show(
-            &mut stores.tracker,
-            &mut stores.fences,
-            &mut stores.queues,
-            &mut stores.freed,
-            &mut stores.things,
-            &stores.present,
-            &stores.registers,
-            stores.script.topology.crtcs,
-            &shown,
-            ids_before.as_slice(),
-        );
-        stores.latches.push(shown);
+        latch_picture!(stores, flush, crtc, commit);
     }
 
     /// The CRTC with an index, from 0 to 3, has a vblank, which is counted. True exactly where it goes: the
@@ -89,26 +92,8 @@ impl Core {
             return Ok(false);
         };
         stores.steps.push(step);
-        let before = stores.registers.live_layers(crtc);
-        let ids_before = shown_ids(before.as_slice());
-        let Some(picture) = stores.registers.vblank(crtc) else {
-            unreachable!();
-        };
         stores.goes[crtc as usize] = None;
-        let shown = latch_of(&stores.registers, crtc, commit, picture);
-        show(
-            &mut stores.tracker,
-            &mut stores.fences,
-            &mut stores.queues,
-            &mut stores.freed,
-            &mut stores.things,
-            &stores.present,
-            &stores.registers,
-            stores.script.topology.crtcs,
-            &shown,
-            ids_before.as_slice(),
-        );
-        stores.latches.push(shown);
+        latch_picture!(stores, vblank, crtc, commit);
         Ok(true)
     }
 }
@@ -131,39 +116,6 @@ fn latch_of(registers: &RegFile, crtc: u32, commit: u32, picture: Picture) -> La
         count: registers.count(crtc),
         picture,
     }
-}
-
-/// A commit latches at a CRTC. Of the framebuffers that the picture before named, given by their ids in rising order, those
-/// are freed that nothing needs any more. There is a place for each, and the store has them.
-fn show(
-    tracker: &mut Tracker,
-    fences: &mut Fences,
-    queues: &mut Vec<EventQueue>,
-    freed: &mut Ledger<(u32, u32)>,
-    things: &mut Things,
-    present: &Duplicates,
-    registers: &RegFile,
-    crtcs: u32,
-    shown: &Latch,
-    ids_before: &[u32],
-)
-    requires crtc { shown.now.crtc < 4 }
-    requires crtcs { crtcs ≤ 4 }
-    requires there { IsLatching tracker.old queues.old.items shown.now }
-    requires few { AreFewCommits
-        (marked tracker.old shown.now.commit (mark.Latched shown.now.crtc)) }
-    requires places { framebuffers_in things.old.things ids_before.now ≤ freed.old.places }
-    requires rising { AreRising 0 ids_before.now }
-    requires held { AreHeld things.old.things things.old.fbs ids_before.now }
-    ensures told { LatchIsTold tracker.old tracker.new fences.old fences.new
-        queues.old.items queues.new.items shown.now }
-    ensures freed { Frees things.old things.new present.now registers.now tracker.new crtcs
-        ids_before.now freed.old freed.new }
-{
-    latch(tracker, fences, queues, shown);
-    free(
-        freed, things, present, registers, tracker, crtcs, ids_before,
-    );
 }
 
 /// A commit latches at a CRTC: its event for the CRTC is delivered if it asks for one, and its out-fence there is

@@ -6,7 +6,7 @@ ghost use Rattle.kms_track.specs.Tracking.{ready_of};
 ghost use Rattle.kms_core.specs.Run.{gains};
 ghost use Rattle.kms_core.specs.Work.{AreFewCommits, FindsFirstWhere, HoldsCrtc, HoldsOld, HoldsPlane, IsCrtcWritten, IsPlaneWritten, IsWritten, MayBeDone, MayClaim, MayCleanUp, MayWrite, TellsOver, claim_steps, cleanup_steps, first_claim, is_commit_over, write_step};
 
-use crate::freeing::{free, kept_ids};
+use crate::freeing::{InUse, free, kept_ids};
 use crate::machine::Core;
 use crate::stores::Stores;
 use kms_model::{Kind, ObjId, Step};
@@ -73,18 +73,17 @@ impl Core {
         if !is_commit_over(&stores.tracker, commit) {
             return false;
         }
-        let Some(tail) = stores.tracker.get(commit) else {
-            unreachable!();
-        };
-        let kept_ids = kept_ids(tail);
+        let kept_ids = kept_ids(stores.tracker.get(commit).unwrap());
         stores.tracker.cleanup(commit);
         free(
             &mut stores.freed,
             &mut stores.things,
-            &stores.present,
-            &stores.registers,
-            &stores.tracker,
-            stores.script.topology.crtcs,
+            &InUse {
+                present: &stores.present,
+                registers: &stores.registers,
+                tracker: &stores.tracker,
+                crtcs: stores.script.topology.crtcs,
+            },
             kept_ids.as_slice(),
         );
         stores.steps.push(Step::Cleanup { commit });

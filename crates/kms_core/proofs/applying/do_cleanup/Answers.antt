@@ -1,14 +1,12 @@
 use Rattle.std.proofs.Common.{◌∙◌, ap}
 use Rattle.kms_core.specs.Run.{gains}
 use Rattle.kms_core.specs.Work.{cleanup_steps}
-use Rattle.kms_core.specs.Insides.{run_in, stores_of}
 use Rattle.kms_core.proofs.Applied.{cleanup_asked, cleanup_done, history_now}
 use Rattle.kms_core.proofs.applying.do_cleanup.Goals as goal
 
 pub cleanup-over-requires : goal.cleanup-over-requires
 cleanup-over-requires c = cleanup_asked c.args.core.now
-    (history_now (run_in c.stores.inside) c.args.core.now (stores_of c.stores.inside) c.stores.invariant.stands
-    (c.stores.view_is ∙ c.deref-stores.ensures ∙ c.core.view_is)) c.args.commit c.requires
+    (history_now c.args.core.now c.is_a_history.ensures.formed c.is_a_history.ensures.history) c.args.commit c.requires
 
 pub returns : goal.returns
 returns c = record {

@@ -1,14 +1,12 @@
 use Rattle.std.proofs.Common.{◌∙◌, ap}
 use Rattle.kms_core.specs.Calls.{return_step}
 use Rattle.kms_core.specs.Run.{gains}
-use Rattle.kms_core.specs.Insides.{run_in, stores_of}
 use Rattle.kms_core.proofs.Applied.{history_now, return_asked, return_done}
 use Rattle.kms_core.proofs.applying.do_return.Goals as goal
 
 pub return_from-requires : goal.return_from-requires
 return_from-requires c = return_asked c.args.core.now
-    (history_now (run_in c.stores.inside) c.args.core.now (stores_of c.stores.inside) c.stores.invariant.stands
-    (c.stores.view_is ∙ c.deref-stores.ensures ∙ c.core.view_is)) c.args.client c.requires
+    (history_now c.args.core.now c.is_a_history.ensures.formed c.is_a_history.ensures.history) c.args.client c.requires
 
 pub returns : goal.returns
 returns c = record {

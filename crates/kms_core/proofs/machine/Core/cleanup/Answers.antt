@@ -2,35 +2,41 @@ use Rattle.std.proofs.Common.{◌∙◌, ap, refl, sym}
 use Rattle.std.specs.Option.{option_copied}
 use Rattle.kms_model.specs.declared.replies.Step.TheVariants.{Cleanup}
 use Rattle.kms_core.specs.Insides.{run_in, stores_of}
-use Rattle.kms_core.proofs.tails.Marking.{cleans_up, cleanup_held, cleanup_places, few_cleaned, owns_cleanup, tail_keeps_all}
+use Rattle.kms_core.proofs.tails.Marking.{cleans_up, cleanup_held, cleanup_places, cleanup_there, few_cleaned, owns_cleanup, tail_keeps_all}
+use Rattle.kms_core.proofs.stores.Found.{found_some}
 use Rattle.kms_core.proofs.stores.Spared.{own_room, own_spared}
 use Rattle.kms_core.proofs.machine.Core.cleanup.Goals as goal
+
+pub unwrap-requires : goal.unwrap-requires
+unwrap-requires c = found_some c.get.result (λ none.
+    cleanup_there (run_in c.stores.inside) c.args.self.now (stores_of c.stores.inside) c.args.commit c.stores.invariant.stands
+    (c.stores.view_is ∙ c.deref_mut-stores.ensures.value ∙ c.self.view_is) c.requires (ap option_copied none ∙ c.get.ensures))
 
 pub free-requires-clause-places : goal.free-requires-clause-places
 free-requires-clause-places c =
     cleanup_places (run_in c.stores.inside) c.args.self.now (stores_of c.stores.inside) c.args.commit c.as_slice.result.now
     c.stores.invariant.stands (c.stores.view_is ∙ c.deref_mut-stores.ensures.value ∙ c.self.view_is) c.requires
-    (tail_keeps_all (run_in c.stores.inside) c.args.self.now (stores_of c.stores.inside) c.args.commit c.in-Some.tail.now
+    (tail_keeps_all (run_in c.stores.inside) c.args.self.now (stores_of c.stores.inside) c.args.commit c.unwrap.result.now
     c.kept_ids-kept_ids.result.items c.as_slice.result.now c.stores.invariant.stands
     (c.stores.view_is ∙ c.deref_mut-stores.ensures.value ∙ c.self.view_is) c.requires
-    (ap option_copied (sym c.in-Some.is) ∙ c.get.ensures) c.kept_ids-kept_ids.ensures c.as_slice.ensures.value)
+    (ap option_copied (sym c.unwrap.ensures) ∙ c.get.ensures) c.kept_ids-kept_ids.ensures c.as_slice.ensures.value)
 
 pub free-requires-clause-rising : goal.free-requires-clause-rising
 free-requires-clause-rising c =
-    (tail_keeps_all (run_in c.stores.inside) c.args.self.now (stores_of c.stores.inside) c.args.commit c.in-Some.tail.now
+    (tail_keeps_all (run_in c.stores.inside) c.args.self.now (stores_of c.stores.inside) c.args.commit c.unwrap.result.now
     c.kept_ids-kept_ids.result.items c.as_slice.result.now c.stores.invariant.stands
     (c.stores.view_is ∙ c.deref_mut-stores.ensures.value ∙ c.self.view_is) c.requires
-    (ap option_copied (sym c.in-Some.is) ∙ c.get.ensures) c.kept_ids-kept_ids.ensures c.as_slice.ensures.value).rising
+    (ap option_copied (sym c.unwrap.ensures) ∙ c.get.ensures) c.kept_ids-kept_ids.ensures c.as_slice.ensures.value).rising
 
 pub free-requires-clause-held : goal.free-requires-clause-held
 free-requires-clause-held c =
     cleanup_held (run_in c.stores.inside) c.args.self.now
     (stores_of c.stores.inside) c.args.commit c.as_slice.result.now c.stores.invariant.stands
     (c.stores.view_is ∙ c.deref_mut-stores.ensures.value ∙ c.self.view_is) c.requires
-    (tail_keeps_all (run_in c.stores.inside) c.args.self.now (stores_of c.stores.inside) c.args.commit c.in-Some.tail.now
+    (tail_keeps_all (run_in c.stores.inside) c.args.self.now (stores_of c.stores.inside) c.args.commit c.unwrap.result.now
     c.kept_ids-kept_ids.result.items c.as_slice.result.now c.stores.invariant.stands
     (c.stores.view_is ∙ c.deref_mut-stores.ensures.value ∙ c.self.view_is) c.requires
-    (ap option_copied (sym c.in-Some.is) ∙ c.get.ensures) c.kept_ids-kept_ids.ensures c.as_slice.ensures.value)
+    (ap option_copied (sym c.unwrap.ensures) ∙ c.get.ensures) c.kept_ids-kept_ids.ensures c.as_slice.ensures.value)
 
 pub free-requires-clause-few : goal.free-requires-clause-few
 free-requires-clause-few c =
@@ -52,8 +58,8 @@ push-requires c =
     c.if-not-is_commit_over.false in
     (own_room r st (Cleanup k) k _ _ c.stores.invariant.stands owns.own c.stores.invariant.spare).step
 
-pub invariant_of-stores : goal.invariant_of-stores
-invariant_of-stores c =
+pub invariant_of-stores-2 : goal.invariant_of-stores-2
+invariant_of-stores-2 c =
     let r = run_in c.stores.inside in
     let st = stores_of c.stores.inside in
     let k = c.args.commit in
@@ -65,9 +71,9 @@ invariant_of-stores c =
     (c.stores.view_is ∙ c.deref_mut-stores.ensures.value ∙ c.self.view_is) c.requires owns.over
     refl c.push.ensures.items (record { count = c.cleanup.ensures.count; lasts = c.cleanup.ensures.lasts; tails = c.cleanup.ensures.tails })
     c.as_slice.result.now c.free.new.freed c.free.new.things
-    (tail_keeps_all r c.args.self.now st k c.in-Some.tail.now c.kept_ids-kept_ids.result.items c.as_slice.result.now
+    (tail_keeps_all r c.args.self.now st k c.unwrap.result.now c.kept_ids-kept_ids.result.items c.as_slice.result.now
     c.stores.invariant.stands (c.stores.view_is ∙ c.deref_mut-stores.ensures.value ∙ c.self.view_is) c.requires
-    (ap option_copied (sym c.in-Some.is) ∙ c.get.ensures) c.kept_ids-kept_ids.ensures c.as_slice.ensures.value)
+    (ap option_copied (sym c.unwrap.ensures) ∙ c.get.ensures) c.kept_ids-kept_ids.ensures c.as_slice.ensures.value)
     c.free.ensures in
     record {
       stands = stands;

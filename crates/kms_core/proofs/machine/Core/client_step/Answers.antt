@@ -11,10 +11,12 @@ returns-then-stores c = client_ended (run_in c.stores.inside) c.args.self.now
 
 pub taking_step-requires-clause-going : goal.taking_step-requires-clause-going
 taking_step-requires-clause-going c = sym
-    (ended_told (run_in c.stores.inside) c.deref-stores.result.now (stores_of c.stores.inside) c.stores.invariant.stands c.stores.view_is)
+    (ended_told (run_in c.stores.inside) c.args.self.now (stores_of c.stores.inside) c.stores.invariant.stands
+    (c.stores.view_is ∙ c.deref-stores.ensures ∙ c.self.view_is))
     ∙ c.if-stores.false
 
 pub other_step-requires-clause-going : goal.other_step-requires-clause-going
 other_step-requires-clause-going c = sym
-    (ended_told (run_in c.stores.inside) c.deref-stores.result.now (stores_of c.stores.inside) c.stores.invariant.stands c.stores.view_is)
+    (ended_told (run_in c.stores.inside) c.args.self.now (stores_of c.stores.inside) c.stores.invariant.stands
+    (c.stores.view_is ∙ c.deref-stores.ensures ∙ c.self.view_is))
     ∙ c.if-stores.false

@@ -1,8 +1,8 @@
 use Rattle.std.proofs.Common.{◌∙◌, ap, refl, sym}
 use Rattle.std.specs.Prelude.{◌&&◌, not}
-use Rattle.kms_model.specs.Machine.Histories.{is_dead, legal}
+use Rattle.kms_model.specs.Machine.Histories.{is_dead}
 use Rattle.kms_model.specs.Machine.Steps.{may}
-use Rattle.kms_core.specs.Run.{Run, machine}
+use Rattle.kms_core.specs.Run.{machine}
 use Rattle.kms_core.specs.Insides.{run_in, stores_of}
 use Rattle.kms_core.proofs.next.Legals.{ended_told, legal_told, stall_told}
 use Rattle.kms_core.proofs.machine.Core.legal.Goals as goal
@@ -23,10 +23,9 @@ returns-else-not-stores c =
 
 pub returns-then-not-stores-2 : goal.returns-then-not-stores-2
 returns-then-not-stores-2 c = ap (λ x. not x && c.may.result) (sym c.if-not-stores-2.true)
-    ∙ legal_told c.deref-stores.result.now c.args.step.now c.stores.inside.stalled c.may.result c.in_default.not-Stall
-    (ended_told (run_in c.stores.inside) c.deref-stores.result.now (stores_of c.stores.inside) c.stores.invariant.stands c.stores.view_is)
-    c.may.ensures
-    ∙ ap (λ (w : Run). legal w.script (machine w) c.args.step.now) (c.deref-stores.ensures ∙ c.self.view_is)
+    ∙ legal_told c.args.self.now c.args.step.now c.stores.inside.stalled c.may.result c.in_default.not-Stall
+    (ended_told (run_in c.stores.inside) c.args.self.now (stores_of c.stores.inside) c.stores.invariant.stands
+    (c.stores.view_is ∙ c.deref-stores.ensures ∙ c.self.view_is)) c.may.ensures
 
 pub returns-else-not-stores-2 : goal.returns-else-not-stores-2
 returns-else-not-stores-2 c =

@@ -5,6 +5,7 @@ use Rattle.kms_model.specs.Machine.Steps.{is_making}
 use Rattle.kms_laws.proofs.Steps.{not_atomic}
 use Rattle.kms_core.specs.Run.{machine}
 use Rattle.kms_core.proofs.calls.Executed.{has_ids, idle_maker, is_found, makes, never_absent, no_request, place_for, stored_for, tells_reply}
+use Rattle.kms_core.proofs.stores.Found.{found_some}
 use Rattle.kms_core.proofs.stores.WithRoom.{stands_with_room}
 use Rattle.kms_core.proofs.stores.Seeking.{few_tails}
 use Rattle.kms_core.specs.Insides.{run_in, stores_of}
@@ -16,31 +17,32 @@ place-number-requires c = (idle_maker (run_in c.stores.inside) c.args.self.now
     (stores_of c.stores.inside) c.args.client c.stores.invariant.stands
     (c.stores.view_is ∙ c.deref_mut-stores.ensures.value ∙ c.self.view_is) c.requires).is_client
 
-pub unreachable-requires : goal.unreachable-requires
-unreachable-requires c = never_absent (run_in c.stores.inside) (stores_of c.stores.inside) c.args.client c.place-number.result.command
+pub unwrap-command-requires : goal.unwrap-command-requires
+unwrap-command-requires c = found_some c.command_of.result (λ none.
+    never_absent (run_in c.stores.inside) (stores_of c.stores.inside) c.args.client c.place-number.result.command
     is_making (idle_maker (run_in c.stores.inside) c.args.self.now (stores_of c.stores.inside) c.args.client c.stores.invariant.stands
     (c.stores.view_is ∙ c.deref_mut-stores.ensures.value ∙ c.self.view_is) c.requires)
-    (ap (λ (p : Place). p.command) c.place-number.ensures) (ap option_copied (sym c.in_default.is) ∙ c.command_of.ensures)
+    (ap (λ (p : Place). p.command) c.place-number.ensures) (ap option_copied none ∙ c.command_of.ensures))
 
 pub execute-requires-clause-fit : goal.execute-requires-clause-fit
 execute-requires-clause-fit c =
     (is_found (run_in c.stores.inside) (stores_of c.stores.inside) c.args.client c.place-number.result.command is_making
-    c.in-Some.command.now c.stores.invariant.stands
+    c.unwrap-command.result.now c.stores.invariant.stands
     (idle_maker (run_in c.stores.inside) c.args.self.now (stores_of c.stores.inside) c.args.client c.stores.invariant.stands
     (c.stores.view_is ∙ c.deref_mut-stores.ensures.value ∙ c.self.view_is) c.requires)
-    (ap (λ (p : Place). p.command) c.place-number.ensures) (ap option_copied (sym c.in-Some.is) ∙ c.command_of.ensures)).fit
+    (ap (λ (p : Place). p.command) c.place-number.ensures) (ap option_copied (sym c.unwrap-command.ensures) ∙ c.command_of.ensures)).fit
 
 pub execute-requires-clause-ids : goal.execute-requires-clause-ids
 execute-requires-clause-ids c = has_ids (run_in c.stores.inside) (stores_of c.stores.inside) c.stores.invariant.stands
 
 pub execute-requires-clause-other : goal.execute-requires-clause-other
-execute-requires-clause-other c = no_request c.in-Some.command.now
-    (not_atomic c.in-Some.command.now
+execute-requires-clause-other c = no_request c.unwrap-command.result.now
+    (not_atomic c.unwrap-command.result.now
     (is_found (run_in c.stores.inside) (stores_of c.stores.inside) c.args.client c.place-number.result.command is_making
-    c.in-Some.command.now c.stores.invariant.stands
+    c.unwrap-command.result.now c.stores.invariant.stands
     (idle_maker (run_in c.stores.inside) c.args.self.now (stores_of c.stores.inside) c.args.client c.stores.invariant.stands
     (c.stores.view_is ∙ c.deref_mut-stores.ensures.value ∙ c.self.view_is) c.requires)
-    (ap (λ (p : Place). p.command) c.place-number.ensures) (ap option_copied (sym c.in-Some.is) ∙ c.command_of.ensures)).passes)
+    (ap (λ (p : Place). p.command) c.place-number.ensures) (ap option_copied (sym c.unwrap-command.ensures) ∙ c.command_of.ensures)).passes)
 
 pub invariant_of-stores-in-Break-branch-4 : goal.invariant_of-stores-in-Break-branch-4
 invariant_of-stores-in-Break-branch-4 c =
@@ -58,25 +60,26 @@ go_on-requires c =
 pub account-requires-clause-place : goal.account-requires-clause-place
 account-requires-clause-place c =
     rw c.in_ok-make_room-3.ensures.places
-    (place_for (run_in c.stores.inside) c.args.self.now (stores_of c.stores.inside) c.args.client c.in-Some.command.now c.in_ok-reply.reply
+    (place_for (run_in c.stores.inside) c.args.self.now (stores_of c.stores.inside) c.args.client c.unwrap-command.result.now
+    c.in_ok-reply.reply
     c.execute.new.self c.stores.invariant.stands (c.stores.view_is ∙ c.deref_mut-stores.ensures.value ∙ c.self.view_is) c.requires
     (is_found (run_in c.stores.inside) (stores_of c.stores.inside) c.args.client c.place-number.result.command is_making
-    c.in-Some.command.now c.stores.invariant.stands
+    c.unwrap-command.result.now c.stores.invariant.stands
     (idle_maker (run_in c.stores.inside) c.args.self.now (stores_of c.stores.inside) c.args.client c.stores.invariant.stands
     (c.stores.view_is ∙ c.deref_mut-stores.ensures.value ∙ c.self.view_is) c.requires)
-    (ap (λ (p : Place). p.command) c.place-number.ensures) (ap option_copied (sym c.in-Some.is) ∙ c.command_of.ensures)).at
+    (ap (λ (p : Place). p.command) c.place-number.ensures) (ap option_copied (sym c.unwrap-command.ensures) ∙ c.command_of.ensures)).at
     (λ t w. c.in_ok-reply.ensures.executed t w))
 
 pub account-requires-clause-stored : goal.account-requires-clause-stored
 account-requires-clause-stored c =
     stored_for (run_in c.stores.inside) c.args.self.now
-    (stores_of c.stores.inside) c.args.client c.in-Some.command.now c.in_ok-reply.reply c.execute.new.self c.stores.invariant.stands
+    (stores_of c.stores.inside) c.args.client c.unwrap-command.result.now c.in_ok-reply.reply c.execute.new.self c.stores.invariant.stands
     (c.stores.view_is ∙ c.deref_mut-stores.ensures.value ∙ c.self.view_is) c.requires
     (is_found (run_in c.stores.inside) (stores_of c.stores.inside) c.args.client c.place-number.result.command is_making
-    c.in-Some.command.now c.stores.invariant.stands
+    c.unwrap-command.result.now c.stores.invariant.stands
     (idle_maker (run_in c.stores.inside) c.args.self.now (stores_of c.stores.inside) c.args.client c.stores.invariant.stands
     (c.stores.view_is ∙ c.deref_mut-stores.ensures.value ∙ c.self.view_is) c.requires)
-    (ap (λ (p : Place). p.command) c.place-number.ensures) (ap option_copied (sym c.in-Some.is) ∙ c.command_of.ensures)).at
+    (ap (λ (p : Place). p.command) c.place-number.ensures) (ap option_copied (sym c.unwrap-command.ensures) ∙ c.command_of.ensures)).at
     (λ t w. c.in_ok-reply.ensures.executed t w) c.in_ok-reply.ensures.counted
 
 pub account-requires-clause-few : goal.account-requires-clause-few
@@ -84,28 +87,28 @@ account-requires-clause-few c = few_tails (run_in c.stores.inside) (stores_of c.
 
 pub returns-clause-reply : goal.returns-clause-reply
 returns-clause-reply c = tells_reply (run_in c.stores.inside) c.args.self.now
-    (stores_of c.stores.inside) c.args.client c.in-Some.command.now c.execute.new.self c.in_ok-reply.reply c.stores.invariant.stands
+    (stores_of c.stores.inside) c.args.client c.unwrap-command.result.now c.execute.new.self c.in_ok-reply.reply c.stores.invariant.stands
     (c.stores.view_is ∙ c.deref_mut-stores.ensures.value ∙ c.self.view_is)
     (is_found (run_in c.stores.inside) (stores_of c.stores.inside) c.args.client c.place-number.result.command is_making
-    c.in-Some.command.now c.stores.invariant.stands
+    c.unwrap-command.result.now c.stores.invariant.stands
     (idle_maker (run_in c.stores.inside) c.args.self.now (stores_of c.stores.inside) c.args.client c.stores.invariant.stands
     (c.stores.view_is ∙ c.deref_mut-stores.ensures.value ∙ c.self.view_is) c.requires)
-    (ap (λ (p : Place). p.command) c.place-number.ensures) (ap option_copied (sym c.in-Some.is) ∙ c.command_of.ensures)).at
+    (ap (λ (p : Place). p.command) c.place-number.ensures) (ap option_copied (sym c.unwrap-command.ensures) ∙ c.command_of.ensures)).at
     (λ t w. c.in_ok-reply.ensures.executed t w)
 
 pub invariant_of-stores-2 : goal.invariant_of-stores-2
 invariant_of-stores-2 c =
     let stands =
-    makes (run_in c.stores.inside) c.args.self.now (stores_of c.stores.inside) c.args.client c.in-Some.command.now c.in_ok-reply.reply
+    makes (run_in c.stores.inside) c.args.self.now (stores_of c.stores.inside) c.args.client c.unwrap-command.result.now c.in_ok-reply.reply
     c.go_on.new.self c.join.new.journal c.answer.new.replies c.execute.new.self c.make_fence.new.fences
     c.make_room.new.steps.items c.push.new.self.items
     c.stores.invariant.stands (c.stores.view_is ∙ c.deref_mut-stores.ensures.value ∙ c.self.view_is) c.requires
     (record {
       found = (is_found (run_in c.stores.inside) (stores_of c.stores.inside) c.args.client c.place-number.result.command is_making
-          c.in-Some.command.now c.stores.invariant.stands
+          c.unwrap-command.result.now c.stores.invariant.stands
           (idle_maker (run_in c.stores.inside) c.args.self.now (stores_of c.stores.inside) c.args.client c.stores.invariant.stands
           (c.stores.view_is ∙ c.deref_mut-stores.ensures.value ∙ c.self.view_is) c.requires)
-          (ap (λ (p : Place). p.command) c.place-number.ensures) (ap option_copied (sym c.in-Some.is) ∙ c.command_of.ensures));
+          (ap (λ (p : Place). p.command) c.place-number.ensures) (ap option_copied (sym c.unwrap-command.ensures) ∙ c.command_of.ensures));
       executed_as = λ t w. c.in_ok-reply.ensures.executed t w;
       fences_now = c.make_fence.ensures ∙ rw (c.next_id-id.ensures, c.in_ok-make_room-2.ensures.fences) refl;
       clients_stand = c.go_on.ensures (machine (run_in c.stores.inside)) c.stores.invariant.stands.stores.clients;

@@ -38,7 +38,7 @@ pub invariant_of-stores-2 : goal.invariant_of-stores-2
 invariant_of-stores-2 c =
     let stands =
     reads_event (run_in c.stores.inside) c.args.self.now (stores_of c.stores.inside) c.args.client c.in-Some.reply c.go_on.new.self
-    c.make_room.new.journal c.answer.new.replies (slice_set c.stores.inside.queues.items (c.args.client - 1) c.read.new.self)
+    c.make_room.new.journal c.answer.new.replies (slice_set c.stores.inside.queues.items (c.args.client - 1) c.read-event.new.self)
     c.make_room.new.steps.items c.push.new.self.items
     c.stores.invariant.stands (c.stores.view_is ∙ c.deref_mut-stores.ensures.value ∙ c.self.view_is) c.requires c.if-stores.false
     (record {
@@ -50,7 +50,7 @@ invariant_of-stores-2 c =
       journal_kept = c.in_ok-make_room.ensures.journal;
       replies_more = c.answer.ensures ∙ rw (c.in_ok-make_room.ensures.replies, c.place-number.ensures) refl;
       queues_after = ap (λ (q : Queue). slice_set c.stores.inside.queues.items (c.args.client - 1) q)
-          (c.read.ensures.after ∙ ap after_read
+          (c.read-event.ensures.after ∙ ap after_read
           (found_queue (run_in c.stores.inside) c.args.self.now (stores_of c.stores.inside) c.args.client _ _ c.stores.invariant.stands
           (c.stores.view_is ∙ c.deref_mut-stores.ensures.value ∙ c.self.view_is) c.requires c.index_mut.ensures.value));
     })

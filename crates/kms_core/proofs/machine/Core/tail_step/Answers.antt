@@ -1,7 +1,5 @@
-use Rattle.std.proofs.Common.{ap, refl, sym, ◌∙◌}
+use Rattle.std.proofs.Common.{refl, sym, ◌∙◌}
 use Rattle.std.specs.Prelude.{Some}
-use Rattle.kms_model.specs.Order.Turns.{tail_step}
-use Rattle.kms_core.specs.Run.{Run, machine}
 use Rattle.kms_core.specs.Insides.{run_in, stores_of}
 use Rattle.kms_core.proofs.next.TailTurns.{settle_ended, settle_told}
 use Rattle.kms_core.proofs.machine.Core.tail_step.Goals as goal
@@ -11,12 +9,12 @@ returns-then-stores c = settle_ended (run_in c.stores.inside) c.args.self.now (s
     (c.stores.view_is ∙ c.deref-stores.ensures ∙ c.self.view_is) c.if-stores.true
 
 pub returns-in-Some : goal.returns-in-Some
-returns-in-Some c = settle_told (run_in c.stores.inside) c.deref-stores.result.now (stores_of c.stores.inside)
-    (Some c.in-Some.step) _ c.stores.invariant.stands c.stores.view_is c.if-stores.false (sym c.in-Some.is ∙ c.first_of_tails.ensures) refl
-    ∙ ap (λ (w : Run). tail_step w.script (machine w)) (c.deref-stores.ensures ∙ c.self.view_is)
+returns-in-Some c = settle_told (run_in c.stores.inside) c.args.self.now (stores_of c.stores.inside)
+    (Some c.in-Some.step) _ c.stores.invariant.stands (c.stores.view_is ∙ c.deref-stores.ensures ∙ c.self.view_is) c.if-stores.false
+    (sym c.in-Some.is ∙ c.first_of_tails.ensures) refl
 
 pub returns-in-None : goal.returns-in-None
-returns-in-None c = settle_told (run_in c.stores.inside) c.deref-stores.result.now
-    (stores_of c.stores.inside) _ c.first_blanking.result c.stores.invariant.stands c.stores.view_is c.if-stores.false
+returns-in-None c = settle_told (run_in c.stores.inside) c.args.self.now
+    (stores_of c.stores.inside) _ c.first_blanking.result c.stores.invariant.stands
+    (c.stores.view_is ∙ c.deref-stores.ensures ∙ c.self.view_is) c.if-stores.false
     (sym c.in-None.is ∙ c.first_of_tails.ensures) c.first_blanking.ensures
-    ∙ ap (λ (w : Run). tail_step w.script (machine w)) (c.deref-stores.ensures ∙ c.self.view_is)

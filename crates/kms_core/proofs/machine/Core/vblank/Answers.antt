@@ -4,6 +4,7 @@ use Rattle.kms_model.specs.declared.objects.Kind.TheVariants.{Crtc}
 use Rattle.kms_model.specs.declared.replies.Step.TheVariants.{Vblank}
 use Rattle.kms_model.specs.Device.Objects.{object_id}
 use Rattle.kms_core.proofs.tails.Blanking.{blank_latches, blanks_crtc, blanks_for, blanks_legal, blanks_low, blanks_with, blanks_without, count_fits, few_blanked, goes_is, has_picture}
+use Rattle.kms_core.proofs.stores.Found.{found_some}
 use Rattle.kms_core.proofs.stores.FreedCalls.{live_all, live_few, live_held, live_places}
 use Rattle.kms_core.specs.Insides.{run_in, stores_of}
 use Rattle.kms_core.proofs.stores.Spared.{other_spared, tail_room, tail_spared}
@@ -61,30 +62,23 @@ pub vblank-requires-clause-count : goal.vblank-requires-clause-count
 vblank-requires-clause-count c =
     count_fits (run_in c.stores.inside) (stores_of c.stores.inside) c.args.crtc (Vblank Crtc c.args.crtc) c.stores.inside.steps.items c.push-2.new.self.items c.stores.invariant.stands refl c.push-2.ensures.items c.push-2.ensures.fits
 
-pub invariant_of-stores-in_default-vblank : goal.invariant_of-stores-in_default-vblank
-invariant_of-stores-in_default-vblank c =
-    absurd (
+pub unwrap-picture-requires : goal.unwrap-picture-requires
+unwrap-picture-requires c = found_some c.vblank.result (λ none.
     has_picture (run_in c.stores.inside) (stores_of c.stores.inside) c.in-Some.commit c.args.crtc c.stores.invariant.stands
     (blanks_low (run_in c.stores.inside) c.args.self.now (stores_of c.stores.inside) c.args.crtc c.stores.invariant.stands
-    (c.stores.view_is ∙ c.deref_mut-stores.ensures.value ∙ c.self.view_is) c.requires) c.in-Some.is c.in_default-vblank.ensures.picture
-    )
+    (c.stores.view_is ∙ c.deref_mut-stores.ensures.value ∙ c.self.view_is) c.requires) c.in-Some.is
+    (λ t d stand. none ∙ c.vblank.ensures.picture t d stand))
 
-pub unreachable-requires : goal.unreachable-requires
-unreachable-requires c =
-    has_picture (run_in c.stores.inside) (stores_of c.stores.inside) c.in-Some.commit c.args.crtc c.stores.invariant.stands
-    (blanks_low (run_in c.stores.inside) c.args.self.now (stores_of c.stores.inside) c.args.crtc c.stores.invariant.stands
-    (c.stores.view_is ∙ c.deref_mut-stores.ensures.value ∙ c.self.view_is) c.requires) c.in-Some.is c.in_default-vblank.ensures.picture
-
-pub show-requires-clause-crtc : goal.show-requires-clause-crtc
-show-requires-clause-crtc c = rw c.latch_of-shown.ensures.shown
+pub latch-requires-clause-crtc : goal.latch-requires-clause-crtc
+latch-requires-clause-crtc c = rw c.latch_of-shown.ensures.shown
     (blanks_low (run_in c.stores.inside) c.args.self.now (stores_of c.stores.inside) c.args.crtc c.stores.invariant.stands
     (c.stores.view_is ∙ c.deref_mut-stores.ensures.value ∙ c.self.view_is) c.requires)
 
-pub show-requires-clause-there : goal.show-requires-clause-there
-show-requires-clause-there c =
+pub latch-requires-clause-there : goal.latch-requires-clause-there
+latch-requires-clause-there c =
     rw c.latch_of-shown.ensures.shown
     (blank_latches (run_in c.stores.inside) c.args.self.now
-    (stores_of c.stores.inside) c.in-Some.commit c.args.crtc c.latch_of-shown.result.count c.in-Some-vblank.picture
+    (stores_of c.stores.inside) c.in-Some.commit c.args.crtc c.latch_of-shown.result.count c.unwrap-picture.result
     c.stores.invariant.stands (c.stores.view_is ∙ c.deref_mut-stores.ensures.value ∙ c.self.view_is) c.requires c.in-Some.is)
 
 pub push-requires-3 : goal.push-requires-3
@@ -112,8 +106,8 @@ live_layers-before-requires c = blanks_low (run_in c.stores.inside) c.args.self.
 pub shown_ids-ids_before-requires : goal.shown_ids-ids_before-requires
 shown_ids-ids_before-requires c = live_few (run_in c.stores.inside) (stores_of c.stores.inside) (object_id Crtc c.args.crtc) c.as_slice.result.now c.stores.invariant.stands (λ t d stand. c.as_slice.ensures ∙ c.live_layers-before.ensures t d stand)
 
-pub show-requires-clause-places : goal.show-requires-clause-places
-show-requires-clause-places c =
+pub free-requires-clause-places : goal.free-requires-clause-places
+free-requires-clause-places c =
     let r = run_in c.stores.inside in
     let st = stores_of c.stores.inside in
     live_places r st (object_id Crtc c.args.crtc) c.as_slice-2.result.now c.stores.invariant.stands
@@ -121,8 +115,8 @@ show-requires-clause-places c =
     (c.stores.view_is ∙ c.deref_mut-stores.ensures.value ∙ c.self.view_is) c.requires c.in-Some.is)
     (live_all r st (object_id Crtc c.args.crtc) c.as_slice.result.now c.shown_ids-ids_before.result.items c.as_slice-2.result.now c.stores.invariant.stands c.shown_ids-ids_before.ensures (λ t d stand. c.as_slice.ensures ∙ c.live_layers-before.ensures t d stand) c.as_slice-2.ensures.value)
 
-pub show-requires-clause-held : goal.show-requires-clause-held
-show-requires-clause-held c =
+pub free-requires-clause-held : goal.free-requires-clause-held
+free-requires-clause-held c =
     let r = run_in c.stores.inside in
     let st = stores_of c.stores.inside in
     live_held r st (object_id Crtc c.args.crtc) c.as_slice-2.result.now c.stores.invariant.stands
@@ -130,15 +124,15 @@ show-requires-clause-held c =
     (c.stores.view_is ∙ c.deref_mut-stores.ensures.value ∙ c.self.view_is) c.requires c.in-Some.is)
     (live_all r st (object_id Crtc c.args.crtc) c.as_slice.result.now c.shown_ids-ids_before.result.items c.as_slice-2.result.now c.stores.invariant.stands c.shown_ids-ids_before.ensures (λ t d stand. c.as_slice.ensures ∙ c.live_layers-before.ensures t d stand) c.as_slice-2.ensures.value)
 
-pub show-requires-clause-rising : goal.show-requires-clause-rising
-show-requires-clause-rising c =
+pub free-requires-clause-rising : goal.free-requires-clause-rising
+free-requires-clause-rising c =
     let r = run_in c.stores.inside in
     let st = stores_of c.stores.inside in
     (live_all r st (object_id Crtc c.args.crtc) c.as_slice.result.now c.shown_ids-ids_before.result.items c.as_slice-2.result.now c.stores.invariant.stands c.shown_ids-ids_before.ensures (λ t d stand. c.as_slice.ensures ∙ c.live_layers-before.ensures t d stand) c.as_slice-2.ensures.value).rising
 
-pub show-requires-clause-few : goal.show-requires-clause-few
-show-requires-clause-few c =
-    rw c.latch_of-shown.ensures.shown
+pub free-requires-clause-few : goal.free-requires-clause-few
+free-requires-clause-few c =
+    rw (c.latch.ensures.tracker, c.latch_of-shown.ensures.shown)
     (few_blanked (run_in c.stores.inside) c.args.self.now (stores_of c.stores.inside) c.in-Some.commit c.args.crtc c.stores.invariant.stands
     (c.stores.view_is ∙ c.deref_mut-stores.ensures.value ∙ c.self.view_is) c.requires c.in-Some.is)
 
@@ -151,21 +145,21 @@ invariant_of-stores-2 c =
     let B = blanks_for r c.args.self.now st c.in-Some.commit c.args.crtc c.stores.invariant.stands
     (c.stores.view_is ∙ c.deref_mut-stores.ensures.value ∙ c.self.view_is) c.requires c.in-Some.is in
     let stands =
-    blanks_with r c.args.self.now st c.in-Some.commit c.args.crtc c.latch_of-shown.result.count c.in-Some-vblank.picture c.vblank.new.self
-    c.show.new.tracker c.show.new.fences
-    c.show.new.queues.items c.push-3.new.self c.push-2.new.self.items c.stores.invariant.stands
+    blanks_with r c.args.self.now st c.in-Some.commit c.args.crtc c.latch_of-shown.result.count c.unwrap-picture.result c.vblank.new.self
+    c.latch.new.tracker c.latch.new.fences
+    c.latch.new.queues.items c.push-3.new.self c.push-2.new.self.items c.stores.invariant.stands
     (c.stores.view_is ∙ c.deref_mut-stores.ensures.value ∙ c.self.view_is) c.requires c.push-2.ensures.items
     (record {
       go = c.in-Some.is;
-      blanks = c.in-Some-vblank.ensures.stands;
-      tells = c.in-Some-vblank.ensures.picture;
+      blanks = c.vblank.ensures.stands;
+      tells = rw c.unwrap-picture.ensures at c.vblank.ensures.picture;
       counted = c.latch_of-shown.ensures.count;
-      told = rw shown at c.show.ensures.told;
+      told = rw shown at c.latch.ensures;
       recorded = rw shown at c.push-3.ensures.items;
     })
-    c.as_slice-2.result.now c.show.new.freed c.show.new.things
+    c.as_slice-2.result.now c.free.new.freed c.free.new.things
     (live_all r st (object_id Crtc c.args.crtc) c.as_slice.result.now c.shown_ids-ids_before.result.items c.as_slice-2.result.now c.stores.invariant.stands c.shown_ids-ids_before.ensures (λ t d stand. c.as_slice.ensures ∙ c.live_layers-before.ensures t d stand) c.as_slice-2.ensures.value)
-    c.show.ensures.freed in
+    c.free.ensures in
     record {
       stands = stands;
       spare = tail_spared r st _ step c.in-Some.commit r.steps c.push-2.new.self.items _ _ _ _ c.stores.invariant.stands stands refl c.push-2.ensures.items B.within B.go c.stores.invariant.spare c.push-2.ensures.room c.push-3.ensures.room;

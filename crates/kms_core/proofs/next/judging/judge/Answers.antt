@@ -17,13 +17,16 @@ pub index-queue-requires : goal.index-queue-requires
 index-queue-requires c =
     let r = run_in c.stores.inside in
     let within : c.args.client - 1 < length c.stores.inside.queues.items =
-    (queue_there r (stores_of c.stores.inside) c.args.client c.args.request.now (takes_at r c.args.stores.now c.args.client c.args.request.now c.stores.view_is c.requires).at c.stores.invariant.stands).within in
+    (queue_there r (stores_of c.stores.inside) c.args.client c.args.request.now (takes_at r c.args.core.now c.args.client
+    c.args.request.now (c.stores.view_is ∙ c.deref-stores.ensures ∙ c.core.view_is) c.requires).at c.stores.invariant.stands).within in
     search rules
 
 pub late_reply-requires : goal.late_reply-requires
 late_reply-requires c =
     let r = run_in c.stores.inside in
-    few_at r (stores_of c.stores.inside) c.args.client c.args.request.now c.index-queue.result.now (takes_at r c.args.stores.now c.args.client c.args.request.now c.stores.view_is c.requires).at c.stores.invariant.stands c.index-queue.ensures
+    few_at r (stores_of c.stores.inside) c.args.client c.args.request.now c.index-queue.result.now
+    (takes_at r c.args.core.now c.args.client c.args.request.now (c.stores.view_is ∙ c.deref-stores.ensures ∙ c.core.view_is)
+    c.requires).at c.stores.invariant.stands c.index-queue.ensures
 
 pub full_check-requires : goal.full_check-requires
 full_check-requires c =
@@ -38,8 +41,10 @@ returns c =
     let st = stores_of c.stores.inside in
     let none : early_in r.script.topology (world r) c.args.request.now ≡ None = early_none r st c.args.request.now c.early.result c.stores.invariant.stands c.early.ensures.first (sym c.is_some.ensures ∙ c.if-is_some.false) in
     let stand : StandBetween r.script.topology (world r) c.args.request.now c.changed-after.result = c.changed-after.ensures.between (world r) (presented r st c.stores.invariant.stands) (tells_now r st c.stores.invariant.stands) none in
-    let takes = takes_at r c.args.stores.now c.args.client c.args.request.now c.stores.view_is c.requires in
-    judged_late r c.args.stores.now st c.args.client c.args.request.now _ c.stores.invariant.stands c.stores.view_is takes
+    let takes = takes_at r c.args.core.now c.args.client c.args.request.now (c.stores.view_is ∙ c.deref-stores.ensures ∙ c.core.view_is)
+    c.requires in
+    judged_late r c.args.core.now st c.args.client c.args.request.now _ c.stores.invariant.stands
+    (c.stores.view_is ∙ c.deref-stores.ensures ∙ c.core.view_is) takes
     (record {
       after = c.changed-after.result;
       named = c.spans-named.result.0;

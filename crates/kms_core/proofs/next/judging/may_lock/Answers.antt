@@ -9,19 +9,21 @@ use Rattle.kms_core.proofs.next.Taken.{lock_apart, lock_found, lockable_exists, 
 use Rattle.kms_core.proofs.next.judging.may_lock.Goals as goal
 
 pub returns-in_default : goal.returns-in_default
-returns-in_default c = no_lock c.args.stores.now.script (machine c.args.stores.now) c.args.client c.args.kind c.args.index c.in_default.ensures
+returns-in_default c = no_lock c.args.core.now.script (machine c.args.core.now) c.args.client c.args.kind c.args.index c.in_default.ensures
 
 pub returns-then-not-is_lockable : goal.returns-then-not-is_lockable
 returns-then-not-is_lockable c =
-    not_lockable c.args.stores.now.script (machine c.args.stores.now) c.args.client c.args.kind c.args.index
-    (ap (λ (r : Run). is_lockable r.script.topology c.args.kind c.args.index) (sym c.stores.view_is) ∙ sym c.is_lockable.ensures ∙ c.if-not-is_lockable.true)
+    not_lockable c.args.core.now.script (machine c.args.core.now) c.args.client c.args.kind c.args.index
+    (ap (λ (r : Run). is_lockable r.script.topology c.args.kind c.args.index) (sym
+    (c.stores.view_is ∙ c.deref-stores.ensures ∙ c.core.view_is)) ∙ sym c.is_lockable.ensures ∙ c.if-not-is_lockable.true)
 
 pub reach-reached-requires : goal.reach-reached-requires
 reach-reached-requires c = somewhere_ever (run_in c.stores.inside) (stores_of c.stores.inside) c.stores.invariant.stands
 
 pub is_free_or_older-requires-clause-client : goal.is_free_or_older-requires-clause-client
 is_free_or_older-requires-clause-client c =
-    taker_number (run_in c.stores.inside) c.args.stores.now (stores_of c.stores.inside) c.args.client c.in-Some.request.now c.stores.invariant.stands c.stores.view_is c.in-Some.ensures
+    taker_number (run_in c.stores.inside) c.args.core.now (stores_of c.stores.inside) c.args.client c.in-Some.request.now
+    c.stores.invariant.stands (c.stores.view_is ∙ c.deref-stores.ensures ∙ c.core.view_is) c.in-Some.ensures
 
 pub is_free_or_older-requires-clause-lockable : goal.is_free_or_older-requires-clause-lockable
 is_free_or_older-requires-clause-lockable c =
@@ -32,7 +34,8 @@ returns-then-is_member c =
     let r = run_in c.stores.inside in
     let st = stores_of c.stores.inside in
     let on = sym c.is_lockable.ensures ∙ c.if-not-is_lockable.false in
-    lock_found r c.args.stores.now c.args.client c.args.kind c.args.index c.in-Some.request.now true c.is_free_or_older.result c.of.result c.stores.view_is c.in-Some.ensures on
+    lock_found r c.args.core.now c.args.client c.args.kind c.args.index c.in-Some.request.now true c.is_free_or_older.result c.of.result
+    (c.stores.view_is ∙ c.deref-stores.ensures ∙ c.core.view_is) c.in-Some.ensures on
     (sym c.if-is_member.true ∙ c.is_member.ensures
     ∙ c.reach-reached.ensures.each (world r) c.args.kind c.args.index (presented r st c.stores.invariant.stands) (tells_ever r st c.stores.invariant.stands) (lockable_exists r.script.topology c.args.kind c.args.index on))
     c.of.ensures (c.is_free_or_older.ensures (machine r) c.stores.invariant.stands.stores.clients)
@@ -42,7 +45,8 @@ returns-else-is_member c =
     let r = run_in c.stores.inside in
     let st = stores_of c.stores.inside in
     let on = sym c.is_lockable.ensures ∙ c.if-not-is_lockable.false in
-    lock_apart r c.args.stores.now c.args.client c.args.kind c.args.index c.in-Some.request.now c.is_member.result c.stores.view_is c.in-Some.ensures on
+    lock_apart r c.args.core.now c.args.client c.args.kind c.args.index c.in-Some.request.now c.is_member.result
+    (c.stores.view_is ∙ c.deref-stores.ensures ∙ c.core.view_is) c.in-Some.ensures on
     (c.is_member.ensures
     ∙ c.reach-reached.ensures.each (world r) c.args.kind c.args.index (presented r st c.stores.invariant.stands) (tells_ever r st c.stores.invariant.stands) (lockable_exists r.script.topology c.args.kind c.args.index on))
     c.if-is_member.false

@@ -4,12 +4,14 @@ use Rattle.kms_core.proofs.next.JudgedRequests.{no_test, test_early, test_late}
 use Rattle.kms_core.proofs.next.judging.may_test.Goals as goal
 
 pub returns-in_default : goal.returns-in_default
-returns-in_default c = no_test c.args.stores.now.script (machine c.args.stores.now) c.args.client c.in_default.ensures
+returns-in_default c = no_test c.args.core.now.script (machine c.args.core.now) c.args.client c.in_default.ensures
 
 pub returns-in-None : goal.returns-in-None
-returns-in-None c = test_early c.args.stores.now.script (machine c.args.stores.now) c.args.client c.in-Some.request.now c.in-Some.ensures c.in-None.ensures
+returns-in-None c = test_early c.args.core.now.script (machine c.args.core.now) c.args.client c.in-Some.request.now c.in-Some.ensures
+    c.in-None.ensures
 
 pub returns-in-Some-judge : goal.returns-in-Some-judge
 returns-in-Some-judge c =
     c.is_accepted.ensures
-    ∙ test_late c.args.stores.now.script (machine c.args.stores.now) c.args.client c.in-Some.request.now c.in-Some.ensures c.in-Some-judge.judged c.in-Some-judge.ensures c.is_test.result c.is_test.ensures
+    ∙ test_late c.args.core.now.script (machine c.args.core.now) c.args.client c.in-Some.request.now c.in-Some.ensures
+    c.in-Some-judge.judged c.in-Some-judge.ensures c.is_test.result c.is_test.ensures

@@ -7,4 +7,4 @@ use Rattle.kms_core.specs.Run.{machine}
 use Rattle.kms_core.proofs.next.moving.has_any_go.Given as goal
 
 abbrev pub invariant-loop-crtc : goal.invariant-loop-crtc
-invariant-loop-crtc l = (n : ℕ) → n < l.crtc → is_some (go_at (machine l.stores).device (object_id Crtc n)) ≡ false
+invariant-loop-crtc l = (n : ℕ) → n < l.crtc → is_some (go_at (machine l.core).device (object_id Crtc n)) ≡ false

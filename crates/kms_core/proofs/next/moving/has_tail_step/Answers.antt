@@ -6,7 +6,9 @@ use Rattle.kms_core.proofs.next.moving.has_tail_step.Goals as goal
 
 pub returns-then-tail_moves : goal.returns-then-tail_moves
 returns-then-tail_moves c =
-    some_tail (run_in c.stores.inside) c.args.stores.now (stores_of c.stores.inside) c.stores.invariant.stands c.stores.view_is c.seeking.from c.in-Some.commit c.in-Some.ensures.machine (sym (tail_moved c.args.stores.now c.in-Some.commit) ∙ sym c.tail_moves.ensures ∙ c.if-tail_moves.true)
+    some_tail (run_in c.stores.inside) c.args.core.now (stores_of c.stores.inside) c.stores.invariant.stands
+    (c.stores.view_is ∙ c.deref-stores.ensures ∙ c.core.view_is) c.seeking.from c.in-Some.commit c.in-Some.ensures.machine
+    (sym (tail_moved c.args.core.now c.in-Some.commit) ∙ sym c.tail_moves.ensures ∙ c.if-tail_moves.true)
 
 pub overflow_add-from : goal.overflow_add-from
 overflow_add-from c = more_fits (run_in c.stores.inside) (stores_of c.stores.inside) c.stores.invariant.stands c.seeking.from c.in-Some.commit c.in-Some.ensures.machine
@@ -16,7 +18,10 @@ seeking-smaller c = fewer_left (run_in c.stores.inside) (stores_of c.stores.insi
 
 pub seeking-preserved : goal.seeking-preserved
 seeking-preserved c =
-    rests_further (run_in c.stores.inside) c.args.stores.now (stores_of c.stores.inside) c.stores.invariant.stands c.stores.view_is c.seeking.from c.in-Some.commit c.in-Some.ensures.machine (sym (tail_moved c.args.stores.now c.in-Some.commit) ∙ sym c.tail_moves.ensures ∙ c.if-tail_moves.false) c.seeking.invariant
+    rests_further (run_in c.stores.inside) c.args.core.now (stores_of c.stores.inside) c.stores.invariant.stands
+    (c.stores.view_is ∙ c.deref-stores.ensures ∙ c.core.view_is) c.seeking.from c.in-Some.commit c.in-Some.ensures.machine
+    (sym (tail_moved c.args.core.now c.in-Some.commit) ∙ sym c.tail_moves.ensures ∙ c.if-tail_moves.false) c.seeking.invariant
 
 pub returns : goal.returns
-returns c = no_tail_step (run_in c.stores.inside) c.args.stores.now (stores_of c.stores.inside) c.stores.invariant.stands c.stores.view_is c.seeking.from c.in_default.ensures.machine c.seeking.invariant
+returns c = no_tail_step (run_in c.stores.inside) c.args.core.now (stores_of c.stores.inside) c.stores.invariant.stands
+    (c.stores.view_is ∙ c.deref-stores.ensures ∙ c.core.view_is) c.seeking.from c.in_default.ensures.machine c.seeking.invariant

@@ -6,7 +6,7 @@ use Rattle.kms_core.proofs.next.Movers.{able}
 use Rattle.kms_core.proofs.next.moving.has_tail_step.Given as goal
 
 abbrev pub invariant-seeking : goal.invariant-seeking
-invariant-seeking l = (j : ℕ) → j < l.from → list_any (able l.stores) (steps_of_commit l.stores.script.topology j) ≡ false
+invariant-seeking l = (j : ℕ) → j < l.from → list_any (able l.core) (steps_of_commit l.core.script.topology j) ≡ false
 
 abbrev pub decreases-seeking : goal.decreases-seeking
 decreases-seeking l = 4294967296 - l.from

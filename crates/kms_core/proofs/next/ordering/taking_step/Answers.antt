@@ -6,20 +6,20 @@ use Rattle.kms_core.proofs.next.ordering.taking_step.Goals as goal
 
 pub returns-in_default : goal.returns-in_default
 returns-in_default c =
-    let v = c.args.stores.now in
+    let v = c.args.core.now in
     let q = c.args.request.now in
     taking_told v c.args.client c.requires.going q c.requires.taken true _ _ (refuse_early v.script (machine v) c.args.client q c.requires.taken c.in_default.ensures) refl refl
 
 pub returns-then-is_refused : goal.returns-then-is_refused
 returns-then-is_refused c =
-    let v = c.args.stores.now in
+    let v = c.args.core.now in
     let q = c.args.request.now in
     taking_told v c.args.client c.requires.going q c.requires.taken true _ _
     (sym c.if-is_refused.true ∙ c.is_refused.ensures ∙ refuse_late v.script (machine v) c.args.client q c.requires.taken c.in-Some.judged c.in-Some.ensures c.is_test-is_test.result c.is_test-is_test.ensures) refl refl
 
 pub returns-then-is_accepted : goal.returns-then-is_accepted
 returns-then-is_accepted c =
-    let v = c.args.stores.now in
+    let v = c.args.core.now in
     let q = c.args.request.now in
     taking_told v c.args.client c.requires.going q c.requires.taken false true _
     (sym c.if-is_refused.false ∙ c.is_refused.ensures ∙ refuse_late v.script (machine v) c.args.client q c.requires.taken c.in-Some.judged c.in-Some.ensures c.is_test-is_test.result c.is_test-is_test.ensures)
@@ -27,7 +27,7 @@ returns-then-is_accepted c =
 
 pub returns-then-is_committed : goal.returns-then-is_committed
 returns-then-is_committed c =
-    let v = c.args.stores.now in
+    let v = c.args.core.now in
     let q = c.args.request.now in
     taking_told v c.args.client c.requires.going q c.requires.taken false false true
     (sym c.if-is_refused.false ∙ c.is_refused.ensures ∙ refuse_late v.script (machine v) c.args.client q c.requires.taken c.in-Some.judged c.in-Some.ensures c.is_test-is_test.result c.is_test-is_test.ensures)
@@ -36,7 +36,7 @@ returns-then-is_committed c =
 
 pub returns-else-is_committed : goal.returns-else-is_committed
 returns-else-is_committed c =
-    let v = c.args.stores.now in
+    let v = c.args.core.now in
     let q = c.args.request.now in
     c.lock_step.ensures ∙ lock_some v c.args.client q c.requires.taken
     ∙ taking_told v c.args.client c.requires.going q c.requires.taken false false false

@@ -6,11 +6,12 @@ use Rattle.kms_core.proofs.next.settling.first_blanking.Goals as goal
 pub returns-then-has_go : goal.returns-then-has_go
 returns-then-has_go c =
     let low = c.loop-index-test.true in
-    let size = ap (λ (w : Run). w.script.topology.crtcs) c.stores.view_is in
-    one_blanking c.args.stores.now c.loop-index.index (omega (arith, low, size)) (sym c.has_go.ensures ∙ c.if-has_go.true) c.loop-index.invariant
+    let size = ap (λ (w : Run). w.script.topology.crtcs) (c.stores.view_is ∙ c.deref-stores.ensures ∙ c.core.view_is) in
+    one_blanking c.args.core.now c.loop-index.index (omega (arith, low, size)) (sym c.has_go.ensures ∙ c.if-has_go.true)
+    c.loop-index.invariant
 
 pub returns : goal.returns
 returns c =
     let over = c.loop-index-test.false in
-    let size = ap (λ (w : Run). w.script.topology.crtcs) c.stores.view_is in
-    no_blanking c.args.stores.now (λ index within. c.loop-index.invariant index (omega (arith, within, over, size)))
+    let size = ap (λ (w : Run). w.script.topology.crtcs) (c.stores.view_is ∙ c.deref-stores.ensures ∙ c.core.view_is) in
+    no_blanking c.args.core.now (λ index within. c.loop-index.invariant index (omega (arith, within, over, size)))

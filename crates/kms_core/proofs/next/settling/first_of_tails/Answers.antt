@@ -10,8 +10,11 @@ pub returns-in-Some-first_of_tail : goal.returns-in-Some-first_of_tail
 returns-in-Some-first_of_tail c =
     let r = run_in c.stores.inside in
     let st = stores_of c.stores.inside in
-    let v = c.args.stores.now in
-    something_found Step r v st c.stores.invariant.stands c.stores.view_is (first_of v) (cleaned_none r v st c.stores.invariant.stands c.stores.view_is) c.seeking.from c.in-Some.commit c.in-Some-first_of_tail.step c.in-Some.ensures.machine (sym c.in-Some-first_of_tail.is ∙ c.first_of_tail.ensures) c.seeking.invariant
+    let v = c.args.core.now in
+    something_found Step r v st c.stores.invariant.stands (c.stores.view_is ∙ c.deref-stores.ensures ∙ c.core.view_is) (first_of v)
+    (cleaned_none r v st c.stores.invariant.stands (c.stores.view_is ∙ c.deref-stores.ensures ∙ c.core.view_is)) c.seeking.from
+    c.in-Some.commit c.in-Some-first_of_tail.step c.in-Some.ensures.machine (sym c.in-Some-first_of_tail.is ∙ c.first_of_tail.ensures)
+    c.seeking.invariant
 
 pub overflow_add-from : goal.overflow_add-from
 overflow_add-from c = more_fits (run_in c.stores.inside) (stores_of c.stores.inside) c.stores.invariant.stands c.seeking.from c.in-Some.commit c.in-Some.ensures.machine
@@ -23,12 +26,16 @@ pub seeking-preserved : goal.seeking-preserved
 seeking-preserved c =
     let r = run_in c.stores.inside in
     let st = stores_of c.stores.inside in
-    let v = c.args.stores.now in
-    nothing_further Step r v st c.stores.invariant.stands c.stores.view_is (first_of v) (cleaned_none r v st c.stores.invariant.stands c.stores.view_is) c.seeking.from c.in-Some.commit c.in-Some.ensures.machine (sym c.in_default-first_of_tail.is ∙ c.first_of_tail.ensures) c.seeking.invariant
+    let v = c.args.core.now in
+    nothing_further Step r v st c.stores.invariant.stands (c.stores.view_is ∙ c.deref-stores.ensures ∙ c.core.view_is) (first_of v)
+    (cleaned_none r v st c.stores.invariant.stands (c.stores.view_is ∙ c.deref-stores.ensures ∙ c.core.view_is)) c.seeking.from
+    c.in-Some.commit c.in-Some.ensures.machine (sym c.in_default-first_of_tail.is ∙ c.first_of_tail.ensures) c.seeking.invariant
 
 pub returns : goal.returns
 returns c =
     let r = run_in c.stores.inside in
     let st = stores_of c.stores.inside in
-    let v = c.args.stores.now in
-    nothing_found Step r v st c.stores.invariant.stands c.stores.view_is (first_of v) (cleaned_none r v st c.stores.invariant.stands c.stores.view_is) c.seeking.from c.in_default.ensures.machine c.seeking.invariant
+    let v = c.args.core.now in
+    nothing_found Step r v st c.stores.invariant.stands (c.stores.view_is ∙ c.deref-stores.ensures ∙ c.core.view_is) (first_of v)
+    (cleaned_none r v st c.stores.invariant.stands (c.stores.view_is ∙ c.deref-stores.ensures ∙ c.core.view_is)) c.seeking.from
+    c.in_default.ensures.machine c.seeking.invariant

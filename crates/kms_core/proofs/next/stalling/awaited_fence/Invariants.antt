@@ -5,7 +5,7 @@ use Rattle.kms_core.specs.Run.{machine}
 use Rattle.kms_core.proofs.next.stalling.awaited_fence.Given as goal
 
 abbrev pub invariant-seeking : goal.invariant-seeking
-invariant-seeking l = (j : ℕ) → j < l.from → awaited_by l.stores.script.topology (machine l.stores) j ≡ None
+invariant-seeking l = (j : ℕ) → j < l.from → awaited_by l.core.script.topology (machine l.core) j ≡ None
 
 abbrev pub decreases-seeking : goal.decreases-seeking
 decreases-seeking l = 4294967296 - l.from

@@ -7,4 +7,5 @@ use Rattle.kms_core.specs.Run.{machine}
 use Rattle.kms_core.proofs.next.stalling.first_awaited.Given as goal
 
 abbrev pub invariant-loop-fence : goal.invariant-loop-fence
-invariant-loop-fence l = find (is_awaited (machine l.stores)) (fence_ids (drop l.fence-index l.fences)) ≡ find (is_awaited (machine l.stores)) (fence_ids l.fences)
+invariant-loop-fence l = find (is_awaited (machine l.core)) (fence_ids (drop l.fence-index l.fences)) ≡ find
+    (is_awaited (machine l.core)) (fence_ids l.fences)

@@ -5,11 +5,12 @@ use Rattle.kms_core.proofs.next.TailSteps.{cleanup_absent, cleanup_told}
 use Rattle.kms_core.proofs.next.tail_steps.may_clean_up.Goals as goal
 
 pub returns-in-Some : goal.returns-in-Some
-returns-in-Some c = c.is_over_tail.ensures ∙ cleanup_told (run_in c.stores.inside) c.args.stores.now
-    (stores_of c.stores.inside) c.args.commit c.stores.invariant.stands c.stores.view_is c.in-Some.tail.now
+returns-in-Some c = c.is_over_tail.ensures ∙ cleanup_told (run_in c.stores.inside) c.args.core.now
+    (stores_of c.stores.inside) c.args.commit c.stores.invariant.stands (c.stores.view_is ∙ c.deref-stores.ensures ∙ c.core.view_is)
+    c.in-Some.tail.now
     (ap option_copied (sym c.in-Some.is) ∙ c.get.ensures)
 
 pub returns-in-None : goal.returns-in-None
-returns-in-None c = cleanup_absent (run_in c.stores.inside) c.args.stores.now
-    (stores_of c.stores.inside) c.args.commit c.stores.invariant.stands c.stores.view_is
+returns-in-None c = cleanup_absent (run_in c.stores.inside) c.args.core.now
+    (stores_of c.stores.inside) c.args.commit c.stores.invariant.stands (c.stores.view_is ∙ c.deref-stores.ensures ∙ c.core.view_is)
     (ap option_copied (sym c.in-None.is) ∙ c.get.ensures)

@@ -5,11 +5,13 @@ use Rattle.kms_core.proofs.next.TailSteps.{write_absent, write_told}
 use Rattle.kms_core.proofs.next.tail_steps.may_write.Goals as goal
 
 pub returns-in-Some : goal.returns-in-Some
-returns-in-Some c = c.writes_next.ensures ∙ write_told (run_in c.stores.inside) c.args.stores.now
-    (stores_of c.stores.inside) c.args.commit c.stores.invariant.stands c.stores.view_is c.in-Some.tail.now c.args.kind c.args.index
+returns-in-Some c = c.writes_next.ensures ∙ write_told (run_in c.stores.inside) c.args.core.now
+    (stores_of c.stores.inside) c.args.commit c.stores.invariant.stands (c.stores.view_is ∙ c.deref-stores.ensures ∙ c.core.view_is)
+    c.in-Some.tail.now c.args.kind c.args.index
     (ap option_copied (sym c.in-Some.is) ∙ c.get.ensures)
 
 pub returns-in-None : goal.returns-in-None
-returns-in-None c = write_absent (run_in c.stores.inside) c.args.stores.now
-    (stores_of c.stores.inside) c.args.commit c.stores.invariant.stands c.stores.view_is c.args.kind c.args.index
+returns-in-None c = write_absent (run_in c.stores.inside) c.args.core.now
+    (stores_of c.stores.inside) c.args.commit c.stores.invariant.stands (c.stores.view_is ∙ c.deref-stores.ensures ∙ c.core.view_is)
+    c.args.kind c.args.index
     (ap option_copied (sym c.in-None.is) ∙ c.get.ensures)
