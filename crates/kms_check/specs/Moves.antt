@@ -1,6 +1,6 @@
 -- What a client that takes locks for a request does next. From: "KMS Locking"; "Atomic Mode Setting"; `drm_atomic_uapi.c`,
 -- drm_mode_atomic_ioctl. That one object is asked for at a time, the least first, is this device's own.
-use Rattle.std.specs.Prelude.{◌≡◌, ◌⊎◌, ℕ, true, List, Option, Some, None, if◌then◌else◌}
+use Rattle.std.specs.Prelude.{◌≡◌, ◌⊎◌, ℕ, true, List, Option, Some, None, Err, if◌then◌else◌}
 use Rattle.std.specs.Option.{option_and_then}
 use Rattle.kms_model.specs.declared.objects.ObjId.{ObjId}
 use Rattle.kms_model.specs.declared.objects.Topology.{Topology}
@@ -20,9 +20,11 @@ use Rattle.kms_model.specs.Request.Sets.{look_in}
 use Rattle.kms_model.specs.Request.Touched.{touches}
 use Rattle.kms_model.specs.Request.Verdict.{late_in}
 use Rattle.kms_model.proofs.Items.{IsIn}
+use Rattle.kms_check.specs.Answers.{locks_of, refusal_of}
 use Rattle.kms_check.specs.Lacking.{first_lacking}
 use Rattle.kms_state.specs.Places.{is_duplicated, old_states}
 use Rattle.kms_track.specs.Places.{first_below, mask_has, object_at_place}
+use Rattle.kms_check.specs.declared.checking.Refused.{Refused}
 use Rattle.kms_check.specs.declared.moving.Move.{Move}
 use Rattle.kms_check.specs.declared.moving.Move.TheVariants.{Refuse, Lock, Accept}
 
@@ -71,8 +73,15 @@ pub record AcceptedAs (t : Topology) (r : Request) (used : List (ℕ × Look)) (
   pub covers : CoversTouched t r resolved d
   pub kept : old_states checked.states ≡ old_states d
 
+-- A check over states does not accept what a request asks for: it tells which objects are lacking, or the first late refusal
+-- where none is.
+pub record IsRefused (t : Topology) (r : Request) (resolved : Resolved) (d : Duplicates) (refused : Refused) : Type 0 where
+  pub locks : (w : World) → IsOfRequest t w r resolved d → locks_of (Err refused) ≡ first_lacking t w r d
+  pub refusal : (w : World) → IsOfRequest t w r resolved d → first_lacking t w r d ≡ None
+      → refusal_of (Err refused) ≡ late_in t w r
+
 -- a move is the next one
 abbrev pub IsMove : Topology → Request → List (ℕ × Look) → Duplicates → Move → Type 0
 IsMove t r used d (Refuse why) = RefusedBy t r used d why
 IsMove t r used d (Lock id) = AsksFor t r used d id
-IsMove t r used d (Accept checked resolved) = AcceptedAs t r used d checked resolved
+IsMove t r used d (Accept checked resolved) = AcceptedAs t r used d checked.value resolved

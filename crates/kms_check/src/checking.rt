@@ -10,7 +10,7 @@ ghost use Rattle.kms_check.specs.Lacking.{first_lacking};
 ghost use Rattle.kms_state.specs.Places.{old_states};
 
 use crate::applying::apply;
-use crate::lacking::lacking;
+use crate::lacking::{have_places, lacking};
 use kms_model::{Checked, Duplicates, Mask, Refusal, Resolved, Topology};
 use kms_props::AtomicFlags;
 use kms_request::{
@@ -43,38 +43,39 @@ pub enum Refused {
 /// It takes no memory.
 pub fn check(
     topology: &Topology,
-    states: Duplicates,
+    states: &Duplicates,
     resolved: &Resolved,
 ) -> Result<Checked, Refused>
     requires device { IsDevice topology.now }
     requires asked { IsAskedFor topology.now resolved.now }
-    requires held { AreOfSoundWorld topology.now states }
-    requires fresh { AreFresh states }
+    requires held { AreOfSoundWorld topology.now states.now }
+    requires fresh { AreFresh states.now }
 
     // Which objects are still to be duplicated; none of them is asked for twice.
-    ensures locks { (w : World) (r : Request) → IsOfRequest topology.now w r resolved.now states
-        → locks_of result ≡ first_lacking topology.now w r states }
+    ensures locks { (w : World) (r : Request) → IsOfRequest topology.now w r resolved.now states.now
+        → locks_of result ≡ first_lacking topology.now w r states.now }
 
     // The second part of the verdict, over the whole device.
-    ensures refusal { (w : World) (r : Request) → IsOfRequest topology.now w r resolved.now states
-        → first_lacking topology.now w r states ≡ None
+    ensures refusal { (w : World) (r : Request) → IsOfRequest topology.now w r resolved.now states.now
+        → first_lacking topology.now w r states.now ≡ None
         → refusal_of result ≡ late_in topology.now w r }
-    ensures checked { (w : World) (r : Request) → IsOfRequest topology.now w r resolved.now states
+    ensures checked { (w : World) (r : Request) → IsOfRequest topology.now w r resolved.now states.now
         → IfOk result (IsChecked topology.now w r) }
 
     // No state is lost: the same objects are duplicated, with the same old states.
-    ensures kept { IfOk result (λ c. old_states c.states ≡ old_states states) }
+    ensures kept { IfOk result (λ c. old_states c.states ≡ old_states states.now) }
 {
+    have_places(*states);
     let sets = resolved.sets.as_slice();
     let set = objects_set(sets);
-    if let Some(locks) = lacking(&states, &set) {
+    if let Some(locks) = lacking(states, &set) {
         return Err(Refused::MoreLocks { locks });
     }
-    let named = named(resolved, &states);
-    if let Some(locks) = lacking(&states, &only_crtcs(named)) {
+    let named = named(resolved, states);
+    if let Some(locks) = lacking(states, &only_crtcs(named)) {
         return Err(Refused::MoreLocks { locks });
     }
-    let mut states = states;
+    let mut states = *states;
     apply(&mut states, sets);
     let affected = affected(&states, named);
     if let Some(locks) = lacking(&states, &affected) {

@@ -56,3 +56,10 @@ pub(crate) fn lacking(states: &Duplicates, objects: &Mask) -> Option<Mask>
         Some(missing)
     }
 }
+
+/// It does nothing. It shows that states, which it takes by value, have a place for each object of the largest device.
+pub fn have_places(states: Duplicates)
+    ensures crtcs { length states.crtcs ≡ 4 }
+    ensures planes { length states.planes ≡ 16 }
+    ensures conns { length states.conns ≡ 8 }
+{}

@@ -14,4 +14,5 @@ mod least;
 mod moving;
 
 pub use checking::{Refused, check};
+pub use lacking::have_places;
 pub use moving::{Move, next_move};

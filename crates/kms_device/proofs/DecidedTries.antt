@@ -19,9 +19,9 @@ use Rattle.kms_core.specs.Decisions.{IsDecided, world}
 use Rattle.kms_core.specs.declared.stores.looking.Decided.{Decided}
 use Rattle.kms_core.specs.declared.stores.looking.Decided.TheVariants as answer
 use Rattle.kms_core.specs.Run.{Run, machine}
-use Rattle.kms_device.specs.declared.attempt.Attempt.{Attempt}
+use Rattle.kms_device.specs.declared.attempt.Findings.{Findings}
 use Rattle.kms_device.specs.declared.attempt.Attempted.TheVariants as attempted
-use Rattle.kms_device.specs.Attempts.{ComesNext, MayAttempt, IsLastReply, Serves, is_lock, new_attempt}
+use Rattle.kms_device.specs.Attempts.{ComesNext, MayAttempt, IsLastReply, Serves, is_lock, no_findings}
 use Rattle.kms_device.specs.Steps.{owner}
 use Rattle.kms_device.specs.Trying.{DidAndKeeps, DidNothing, IsReady}
 use Rattle.kms_device.specs.Turns.{DevicePass, DeviceTurn, run_seen}
@@ -71,10 +71,10 @@ stale_one now [] label was current decision e = absurd cc
 stale_one now (l ∷ ls) label was current decision (inl same) = any_later (λ told. told.1 ≢ now told.0) l ls (stale_one now ls label was current decision same.1)
 stale_one now (l ∷ ls) label was current decision (inr other) = (0, l, omega arith, refl, other.0)
 
-module _ (script : Script) (p m : DevicePass) (kept : Attempt) (ticket : Ticket) (request : Request) (used : List (ℕ × Look)) (c : TakesFor script p kept ticket request used) where
+module _ (script : Script) (p m : DevicePass) (kept : Findings) (ticket : Ticket) (request : Request) (used : List (ℕ × Look)) (c : TakesFor script p kept ticket request used) where
   -- the step that comes next was made, and recorded a reply
   pub answered_by : (says : Run → Type 0) (x : Step) (own : owner x ≡ p.rank) (t : DeviceTurn script says (x ∷ []) p m) (r : Reply) → ComesNext p.seen t.found p.rank kept used x
-      → IsLastReply (next script (machine t.found) x) p.rank (place_at (machine t.found) p.rank).command r → DidAndKeeps script p kept m (attempted.Answered r) new_attempt
+      → IsLastReply (next script (machine t.found) x) p.rank (place_at (machine t.found) p.rank).command r → DidAndKeeps script p kept m (attempted.Answered r) no_findings
   answered_by says x own t r comes records = record {
     is_attempt = record {
       stepped = stepped script says p m kept c.ready x own t used comes;
@@ -146,7 +146,7 @@ module _ (script : Script) (p m : DevicePass) (kept : Attempt) (ticket : Ticket)
     }
 
 -- two turns that added nothing
-pub in_vain : (script : Script) (says says2 : Run → Type 0) (p m q : DevicePass) (kept : Attempt) → IsReady script p kept → DeviceTurn script says [] p m → DeviceTurn script says2 [] m q → DidNothing script p q
+pub in_vain : (script : Script) (says says2 : Run → Type 0) (p m q : DevicePass) (kept : Findings) → IsReady script p kept → DeviceTurn script says [] p m → DeviceTurn script says2 [] m q → DidNothing script p q
 in_vain script says says2 p m q kept ready t t2 =
     let ready2 : IsReady script m kept = ready_after script says p m kept ready t in record {
       went = went_later [] p m q (went_on script says p m kept ready t) (went_on script says2 m q kept ready2 t2);

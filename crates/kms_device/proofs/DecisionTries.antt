@@ -3,6 +3,7 @@ use Rattle.std.proofs.Common.{◌≡◌, ℕ, List, [], ◌∷◌, length, Bool,
 use Rattle.std.specs.Prelude.{⊤, not, ◌&&◌, if◌then◌else◌}
 use Rattle.std.proofs.lemmas.List.Elements.{All-cons, All-nil}
 use Rattle.std.proofs.lemmas.Bool.{and_parts}
+use Rattle.std.specs.Global.{Box}
 use Rattle.kms_model.specs.declared.objects.ObjId.{ObjId}
 use Rattle.kms_model.specs.declared.objects.Ticket.{Ticket}
 use Rattle.kms_model.specs.declared.objects.Topology.{Topology}
@@ -38,10 +39,10 @@ use Rattle.kms_core.specs.Swaps.{IsReadyToCommit, late_reply, refused_or, swap_a
 use Rattle.kms_core.proofs.Lates.{late_refuses}
 use Rattle.kms_core.proofs.Swapped.{ready_now}
 use Rattle.kms_core.proofs.Verdicts.{refuses}
-use Rattle.kms_device.specs.declared.attempt.Attempt.{Attempt}
+use Rattle.kms_device.specs.declared.attempt.Findings.{Findings}
 use Rattle.kms_device.specs.declared.attempt.Attempted.{Attempted}
 use Rattle.kms_device.specs.declared.attempt.Attempted.TheVariants as attempted
-use Rattle.kms_device.specs.Attempts.{ComesNext, IsLastReply, WaitsAt, is_lock, new_attempt, step_of_move}
+use Rattle.kms_device.specs.Attempts.{ComesNext, IsLastReply, WaitsAt, is_lock, no_findings, step_of_move}
 use Rattle.kms_device.specs.Asking.{MayBeRefused, MayBeSwapped}
 use Rattle.kms_device.specs.Steps.{owner}
 use Rattle.kms_device.specs.Trying.{Concludes, DidAndKeeps, DidNothing, IsTold, LooksAnew, LooksInVain}
@@ -127,17 +128,17 @@ all_fresh now (l ∷ ls) object commit decision (inr other, told) = absurd cc
 
 -- What was told stands
 
-as_told : (script : Script) (p : DevicePass) (kept : Attempt) (m q : DevicePass) (told did : Attempted) (given keeps : Attempt) → IsTold m q did told keeps given → DidAndKeeps script p kept m told given → DidAndKeeps script p kept q did keeps
+as_told : (script : Script) (p : DevicePass) (kept : Findings) (m q : DevicePass) (told did : Attempted) (given keeps : Findings) → IsTold m q did told keeps given → DidAndKeeps script p kept m told given → DidAndKeeps script p kept q did keeps
 as_told script p kept m q told did given keeps is did_so =
     subst (λ (x : DevicePass). DidAndKeeps script p kept x did keeps) (sym is.same)
     (subst (λ x. DidAndKeeps script p kept m x keeps) (sym is.did_is) (subst (λ x. DidAndKeeps script p kept m told x) (sym is.keeps_is) did_so))
 
-module _ (script : Script) (p m q : DevicePass) (kept : Attempt) (ticket : Ticket) (request : Request) (used : List (ℕ × Look)) (c : TakesFor script p kept ticket request used) (did : Attempted) (keeps : Attempt) where
+module _ (script : Script) (p m q : DevicePass) (kept : Findings) (ticket : Ticket) (request : Request) (used : List (ℕ × Look)) (c : TakesFor script p kept ticket request used) (did : Attempted) (keeps : Findings) where
   -- a decision with a reply, by the lemma of the core
   by_decision : (says : Run → Type 0) (x : Step) (own : owner x ≡ p.rank) (t : DeviceTurn script says (x ∷ []) p m) (r : Reply) → ComesNext p.seen t.found p.rank kept used x → next script (machine t.found) x ≡ decided (machine t.found) p.rank r
-      → IsTold m q did (attempted.Answered r) keeps new_attempt → DidAndKeeps script p kept q did keeps
+      → IsTold m q did (attempted.Answered r) keeps no_findings → DidAndKeeps script p kept q did keeps
   by_decision says x own t r comes does told =
-      as_told script p kept m q (attempted.Answered r) did new_attempt keeps told
+      as_told script p kept m q (attempted.Answered r) did no_findings keeps told
       (answered_by script p m kept ticket request used c says x own t r comes
       (subst (λ (z : Machine). IsLastReply z p.rank (place_at (machine t.found) p.rank).command r) (sym does) (recorded (machine t.found) p.rank r)))
 
@@ -173,7 +174,8 @@ module _ (script : Script) (p m q : DevicePass) (kept : Attempt) (ticket : Ticke
     refuses_so (answer.Again label was now) t told = again (move.Refuse why) refused refl _ t label was now (answer.Done (reply.Refused why)) t.said told
 
   -- `test` and `swap`
-  module _ (checked : Checked) (resolved : Resolved) (accepted : AcceptedAs script.topology request used kept.states checked resolved) where
+  module _ (checked : Box Checked) (resolved : Resolved)
+      (accepted : AcceptedAs script.topology request used kept.states checked.value resolved) where
     abbrev asks : Move
     asks = move.Accept checked resolved
 
@@ -215,7 +217,7 @@ module _ (script : Script) (p m q : DevicePass) (kept : Attempt) (ticket : Ticke
         → Concludes script request kept m a q did keeps → DidAndKeeps script p kept q did keeps
     unfolding next
     swaps_so no_test (answer.Done r) t told =
-        as_told script p kept m q (attempted.Answered r) did new_attempt keeps told
+        as_told script p kept m q (attempted.Answered r) did no_findings keeps told
         (answered_by script p m kept ticket request used c _ (step.Swap p.rank) refl t r
         (subst (λ x. ComesNext p.seen t.found p.rank kept used x) (step_is no_test (answer.Done r) t.found None commits.none_late) (comes_found script p m kept ticket request used c _ (step.Swap p.rank ∷ []) t asks accepted))
         (subst (λ (z : Machine). IsLastReply z p.rank (place_at (machine t.found) p.rank).command r) (sym swapped)
@@ -234,19 +236,23 @@ module _ (script : Script) (p m q : DevicePass) (kept : Attempt) (ticket : Ticke
         late : late_reply t.found.script.topology (machine t.found) p.rank request ≡ Some r
         late = refused_of (late_reply t.found.script.topology (machine t.found) p.rank request) (awaited_answer t.found.script.topology (machine t.found) request) (length (machine t.found).device.commits) r (t.said.1 ∙ answer_is no_test (answer.Refused r) _ t)
 
-        may_be : MayBeSwapped (run_seen script p) p.rank ticket used checked resolved
-        may_be = may_swap_by script p kept ticket request used c checked resolved accepted no_test
+        may_be : MayBeSwapped (run_seen script p) p.rank ticket used checked.value resolved
+        may_be = may_swap_by script p kept ticket request used c checked.value resolved accepted no_test
 
-        ready : IsReadyToCommit t.found p.rank checked resolved.flags
+        ready : IsReadyToCommit t.found p.rank checked.value resolved.flags
         ready =
-            subst (λ n. IsReadyToCommit t.found n checked resolved.flags) (the_taker script p t.found t.finds ticket used may_be.request may_be.deciding)
-            (ready_now t.found ticket.0 used checked resolved t.finds.is_open.formed t.finds.is_open.history t.said.0 (at_turn.may_swap script p t.found t.finds ticket used checked resolved may_be))
+            subst (λ n. IsReadyToCommit t.found n checked.value resolved.flags)
+            (the_taker script p t.found t.finds ticket used may_be.request may_be.deciding)
+            (ready_now t.found ticket.0 used checked.value resolved t.finds.is_open.formed t.finds.is_open.history t.said.0
+            (at_turn.may_swap script p t.found t.finds ticket used checked.value resolved may_be))
 
         its_request : ready.request ≡ request
         its_request = (let both : Some ready.request ≡ Some request = sym ready.at ∙ at_found no_test (answer.Refused r) _ t in cc)
 
         does : next t.found.script (machine t.found) (step.Refuse p.rank) ≡ decided (machine t.found) p.rank r
-        does = (late_refuses t.found p.rank checked resolved.flags r ready (ap (late_reply t.found.script.topology (machine t.found) p.rank) its_request ∙ late)).does
+        does =
+            (late_refuses t.found p.rank checked.value resolved.flags r ready
+            (ap (late_reply t.found.script.topology (machine t.found) p.rank) its_request ∙ late)).does
     swaps_so no_test (answer.NotYet object commit) t told =
         as_told script p kept m q (attempted.NotYet (length m.seen)) did kept keeps told
         (waits_for script _ p m kept c.ready t used (step.Swap p.rank) c.has
@@ -259,7 +265,7 @@ module _ (script : Script) (p m q : DevicePass) (kept : Attempt) (ticket : Ticke
     swaps_so no_test (answer.Again label was now) t told = again asks accepted refl _ t label was now (swap_answer t.found p.rank) t.said told
 
 -- no memory for new look-ups: nothing was done
-pub vain_so : (script : Script) (p m q : DevicePass) (kept : Attempt) (ticket : Ticket) (request : Request) (used : List (ℕ × Look)) (c : TakesFor script p kept ticket request used) (says : Run → Type 0) (x : Step) (a : Decided)
+pub vain_so : (script : Script) (p m q : DevicePass) (kept : Findings) (ticket : Ticket) (request : Request) (used : List (ℕ × Look)) (c : TakesFor script p kept ticket request used) (says : Run → Type 0) (x : Step) (a : Decided)
     → DeviceTurn script says (steps_of p.rank x a) p m → LooksInVain script a m q → DidNothing script p q
 vain_so script p m q kept ticket request used c says x (answer.Again label was now) t vain = in_vain script says (λ found. ⊤) p m q kept c.ready t vain.turn
 vain_so script p m q kept ticket request used c says x (answer.Done r) t vain = (let e = vain.again in absurd cc)

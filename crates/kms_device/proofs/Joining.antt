@@ -24,7 +24,7 @@ use Rattle.kms_core.specs.Decisions.{world}
 use Rattle.kms_core.specs.Locks.{present_state}
 use Rattle.kms_core.specs.Run.{Run, machine}
 use Rattle.kms_core.specs.Swaps.{late_reply}
-use Rattle.kms_device.specs.declared.attempt.Attempt.{Attempt}
+use Rattle.kms_device.specs.declared.attempt.Findings.{Findings}
 use Rattle.kms_device.specs.declared.attempt.Attempted.{Attempted}
 use Rattle.kms_device.specs.declared.attempt.Attempted.TheVariants as attempted
 use Rattle.kms_device.specs.Attempts.{AreLookedUp, AsksNext, ComesNext, ComesNextAt, ComesNextTaking, FindsRequest, GoesOnAt, IsAttempt, IsLastReply, Serves, StaysAt, Stepped, Uses, WaitsAt, Went, looks_after, states_after, step_of_move}
@@ -37,7 +37,7 @@ use Rattle.kms_device.proofs.Went.{went_later}
 
 -- What an attempt goes by, told otherwise
 
-module _ (from from2 : List Step) (kept kept2 : Attempt) (states : kept2.states ≡ kept.states) (r : Run) (client : ℕ) (used : List (ℕ × Look))
+module _ (from from2 : List Step) (kept kept2 : Findings) (states : kept2.states ≡ kept.states) (r : Run) (client : ℕ) (used : List (ℕ × Look))
     (uses : Uses from r client kept.looks used → Uses from2 r client kept2.looks used) where
   abbrev asks_so : AsksNext from r client kept used → AsksNext from2 r client kept2 used
   asks_so a = record {
@@ -63,7 +63,7 @@ module _ (from from2 : List Step) (kept kept2 : Attempt) (states : kept2.states 
   waits_so (doing.Returning k) x is = absurd is
 
 -- what waits comes next
-waits_comes : (from : List Step) (kept : Attempt) (r : Run) (client : ℕ) (used : List (ℕ × Look)) (d : Doing) (x : Step) → WaitsAt d from r client kept used x → ComesNextAt d from r client kept used x
+waits_comes : (from : List Step) (kept : Findings) (r : Run) (client : ℕ) (used : List (ℕ × Look)) (d : Doing) (x : Step) → WaitsAt d from r client kept used x → ComesNextAt d from r client kept used x
 waits_comes from kept r client used (doing.Taking t) x is = is.comes
 waits_comes from kept r client used (doing.BackedOff t object) x is = is
 waits_comes from kept r client used doing.Idle x is = absurd is
@@ -71,7 +71,7 @@ waits_comes from kept r client used (doing.MustBackOff t object) x is = absurd i
 waits_comes from kept r client used (doing.Returning k) x is = absurd is
 
 -- what is asked for makes the client keep the look-ups that it used
-looks_of_move : (r : Run) (client : ℕ) (request : Request) (kept : Attempt) (used : List (ℕ × Look)) (asks : Move) → looks_after kept used (step_of_move r client request asks) ≡ Some used
+looks_of_move : (r : Run) (client : ℕ) (request : Request) (kept : Findings) (used : List (ℕ × Look)) (asks : Move) → looks_after kept used (step_of_move r client request asks) ≡ Some used
 looks_of_move r client request kept used (move.Refuse why) = refl
 looks_of_move r client request kept used (move.Lock id) = refl
 looks_of_move r client request kept used (move.Accept checked resolved) = by (is_test request.flags) (is_some (late_reply r.script.topology (machine r) client request))
@@ -83,7 +83,7 @@ looks_of_move r client request kept used (move.Accept checked resolved) = by (is
 
 -- A turn that added nothing, and then the rest of an attempt
 
-module _ (script : Script) (says : Run → Type 0) (p m q : DevicePass) (first : Attempt) (ready : IsReady script p first) (t : DeviceTurn script says [] p m) where
+module _ (script : Script) (says : Run → Type 0) (p m q : DevicePass) (first : Findings) (ready : IsReady script p first) (t : DeviceTurn script says [] p m) where
   went : Went [] p m
   went = went_on script says p m first ready t
 
@@ -97,7 +97,7 @@ module _ (script : Script) (says : Run → Type 0) (p m q : DevicePass) (first :
   finds_earlier found f = record { same = f.same; is_open = f.is_open; begins = since found.steps f.begins; place = f.place ∙ place }
 
   -- what was kept at first, and what the rest went by
-  module _ (kept kept2 : Attempt) (states : kept2.states ≡ kept.states)
+  module _ (kept kept2 : Findings) (states : kept2.states ≡ kept.states)
       (uses : (r : Run) (used : List (ℕ × Look)) → FindsRequest script p.rank m r → Uses m.seen r p.rank kept.looks used → Uses p.seen r p.rank kept2.looks used)
       (looks : (r : Run) (used : List (ℕ × Look)) (x : Step) → FindsRequest script p.rank m r → ComesNext m.seen r p.rank kept used x → looks_after kept used x ≡ looks_after kept2 used x) where
     comes_earlier : (r : Run) (used : List (ℕ × Look)) (x : Step) → FindsRequest script p.rank m r → ComesNext m.seen r p.rank kept used x → ComesNext p.seen r p.rank kept2 used x
@@ -115,7 +115,7 @@ module _ (script : Script) (says : Run → Type 0) (p m q : DevicePass) (first :
       went = went_later (s.next ∷ []) p m q went s.went;
     }
 
-    attempt_earlier : (new : Attempt) (did : Attempted) → IsAttempt script p.rank m kept q new did → IsAttempt script p.rank p kept2 q new did
+    attempt_earlier : (new : Findings) (did : Attempted) → IsAttempt script p.rank m kept q new did → IsAttempt script p.rank p kept2 q new did
     unfolding stepped_earlier
     attempt_earlier new attempted.Did is = elim is [
       | inl on ↦ inl (record {
@@ -182,23 +182,24 @@ module _ (script : Script) (says : Run → Type 0) (p m q : DevicePass) (first :
     rank : m.rank ≡ p.rank
     rank = rank-after script says [] p m t
 
-    tried_earlier : {E : Type 0} (r : Result (Attempted × Attempt) E) → Tried script m kept q r → Tried script p kept2 q r
-    tried_earlier (Ok did) is = record {
-      is_attempt = attempt_earlier did.1 did.0 (subst (λ n. IsAttempt script n m kept q did.1 did.0) rank is.is_attempt);
-      goes_on = goes_earlier did.0 (subst (λ n. GoesOnAt (run_seen script m) (run_seen script q) n did.0) rank is.goes_on);
-      serves = subst (λ n. Serves (run_seen script q) n did.1) rank is.serves;
+    tried_earlier : {E : Type 0} (keeps : Findings) (r : Result Attempted E) → Tried script m kept q keeps r → Tried script p kept2 q keeps r
+    tried_earlier keeps (Ok did) is = record {
+      is_attempt = attempt_earlier keeps did (subst (λ n. IsAttempt script n m kept q keeps did) rank is.is_attempt);
+      goes_on = goes_earlier did (subst (λ n. GoesOnAt (run_seen script m) (run_seen script q) n did) rank is.goes_on);
+      serves = subst (λ n. Serves (run_seen script q) n keeps) rank is.serves;
     }
-    tried_earlier (Err e) is = record {
+    tried_earlier keeps (Err e) is = record {
       went = went_later [] p m q went is.went;
       stays = stays_earlier (subst (StaysAt (run_seen script m) (run_seen script q)) rank is.stays);
     }
 
   -- with the same that was kept
-  pub tried_later : {E : Type 0} (kept : Attempt) (r : Result (Attempted × Attempt) E) → Tried script m kept q r → Tried script p kept q r
-  tried_later kept r is =
+  pub tried_later : {E : Type 0} (kept keeps : Findings) (r : Result Attempted E) → Tried script m kept q keeps r → Tried script p kept q
+      keeps r
+  tried_later kept keeps r is =
       tried_earlier kept kept refl
       (λ r used f u. record { looked = u.looked; same = u.same; made = λ none. since u.looked.early (u.made none) })
-      (λ r used x f comes. refl) r is
+      (λ r used x f comes. refl) keeps r is
 
   -- where the client takes locks still
   pub takes_later : (ticket : Ticket) (request : Request) → TakesLocksFor script p ticket request → TakesLocksFor script m ticket request
@@ -210,7 +211,7 @@ module _ (script : Script) (says : Run → Type 0) (p m q : DevicePass) (first :
       }
 
 -- Look-ups that were made in a turn of their own serve.
-module _ (script : Script) (p m q : DevicePass) (kept : Attempt) (ready : IsReady script p kept) (none : kept.looks ≡ None) (ticket : Ticket) (request : Request) (takes : TakesLocksFor script p ticket request)
+module _ (script : Script) (p m q : DevicePass) (kept : Findings) (ready : IsReady script p kept) (none : kept.looks ≡ None) (ticket : Ticket) (request : Request) (takes : TakesLocksFor script p ticket request)
     (told : List (ℕ × Look)) (t : DeviceTurn script (λ found. told ≡ lookups (world found) request) [] p m) where
   abbrev Says : Run → Type 0
   Says found = told ≡ lookups (world found) request
@@ -282,5 +283,7 @@ module _ (script : Script) (p m q : DevicePass) (kept : Attempt) (ready : IsRead
           ∙ subst (λ n. doing_at (machine (run_seen script m)) n ≡ doing.Taking ticket) (rank-after script Says [] p m t) takes_with.taking)
           comes
 
-  pub tried_with : {E : Type 0} (r : Result (Attempted × Attempt) E) → Tried script m (with_looks told kept.states) q r → Tried script p kept q r
-  tried_with r is = tried_earlier script Says p m q kept ready t (with_looks told kept.states) kept refl uses_then looks_then r is
+  pub tried_with : {E : Type 0} (keeps : Findings) (r : Result Attempted E) → Tried script m (with_looks told kept.states) q keeps r →
+      Tried script p kept q keeps r
+  tried_with keeps r is = tried_earlier script Says p m q kept ready t (with_looks told kept.states) kept refl uses_then looks_then
+      keeps r is

@@ -13,6 +13,7 @@ pub mod Went
 pub mod Stepping
 pub mod Serving
 pub mod TurnsTried
+pub mod Places
 pub mod HeldObjects
 pub mod LockTries
 pub mod TakingTries

@@ -25,14 +25,15 @@ use Rattle.kms_core.specs.Decisions.{world}
 use Rattle.kms_core.specs.Locks.{object_or_zero, present_state, relock_steps, relocked_answer, relocked_as}
 use Rattle.kms_core.specs.Run.{Run, machine}
 use Rattle.kms_core.specs.States.{state_of_kind}
-use Rattle.kms_device.specs.declared.attempt.Attempt.{Attempt}
+use Rattle.kms_device.specs.declared.attempt.Findings.{Findings}
 use Rattle.kms_device.specs.declared.attempt.Attempted.TheVariants as attempted
-use Rattle.kms_device.specs.Attempts.{ComesNextAt, Serves, WaitsAt, taken_in}
+use Rattle.kms_device.specs.Attempts.{ComesNextAt, Serves, StandsAt, WaitsAt, taken_in}
 use Rattle.kms_device.specs.Steps.{owner}
-use Rattle.kms_device.specs.Trying.{DidAndKeeps, IsReady, attempted_of, kept_of, with_state}
+use Rattle.kms_device.specs.Trying.{DidAndKeeps, IsReady, attempted_of, doing_of, kept_of, with_state}
 use Rattle.kms_device.specs.Turns.{DevicePass, DeviceTurn, run_seen}
 use Rattle.kms_device.proofs.HeldObjects.{IsLockableId, held_object}
 use Rattle.kms_device.proofs.Serving.{serves_more}
+use Rattle.kms_device.proofs.Places.{stands_next, stands_still}
 use Rattle.kms_device.proofs.Stepping.{found-is, next-after, open-after}
 use Rattle.kms_device.proofs.TurnsTried.{doing-after, doing-found, place-now, serves-next, stepped_on, waits_for}
 
@@ -53,7 +54,7 @@ state-same r r2 id scripts worlds =
     ap {B = ObjState} (λ (s : Script). state_of_kind s.topology (world r2) (kind_of id.0) id.0) scripts
     ∙ ap {B = ObjState} (λ (w : World). state_of_kind r.script.topology w (kind_of id.0) id.0) worlds
 
-module _ (script : Script) (p q : DevicePass) (kept : Attempt) (ready : IsReady script p kept) where
+module _ (script : Script) (p q : DevicePass) (kept : Findings) (ready : IsReady script p kept) where
   -- An object was taken, with its state, and nothing else changed.
   module _ (says : Run → Type 0) (x : Step) (own : owner x ≡ p.rank) (t : DeviceTurn script says (x ∷ []) p q) (id : ObjId) where
     pub serves-taken : (next script (machine t.found) x).device.world ≡ (machine t.found).device.world
@@ -154,3 +155,23 @@ module _ (script : Script) (p q : DevicePass) (kept : Attempt) (ready : IsReady 
     relocked (answer.Own s) t = absurd (false≢true (only t.found (answer.Own s) (holder_at (machine t.found) object.0) (said (answer.Own s) t)))
     relocked (answer.Older h) t = absurd (false≢true (only t.found (answer.Older h) (holder_at (machine t.found) object.0) (said (answer.Older h) t)))
     relocked (answer.Younger h) t = absurd (false≢true (only t.found (answer.Younger h) (holder_at (machine t.found) object.0) (said (answer.Younger h) t)))
+
+    -- where the client stands then
+    pub relocked_at : (place : Place) → StandsAt (run_seen script p) p.rank place → (a : Locked) → DeviceTurn script (λ found. a ≡ relocked_answer found p.rank) (relock_steps p.rank a) p q
+        → StandsAt (run_seen script q) p.rank (record place { doing = doing_of ticket object a place.doing })
+    unfolding next
+    relocked_at place stands (answer.Got s) t =
+        stands_next script says p q place stands (step.Relock p.rank) t (doing.Taking ticket)
+        (ap (λ d. place_at (Effects.relocked (machine t.found) p.rank (contended d)) p.rank) there
+        ∙ (place-now (machine t.found) p.rank (doing.Taking (record { 0 = ticket_of (doing_at (machine t.found) p.rank) }))
+        ∙ ap {B = Place} (λ d. record { command = (place_at (machine t.found) p.rank).command; doing = doing.Taking (record { 0 = ticket_of d }) }) there))
+      where
+        says : Run → Type 0
+        says found = answer.Got s ≡ relocked_answer found p.rank
+
+        there : doing_at (machine t.found) p.rank ≡ doing.BackedOff ticket object
+        there = doing-found script says p q kept ready (step.Relock p.rank) refl t ∙ off
+    relocked_at place stands (answer.Held h) t = stands_still script (λ found. answer.Held h ≡ relocked_answer found p.rank) p q place stands t
+    relocked_at place stands (answer.Own s) t = stands_still script (λ found. answer.Own s ≡ relocked_answer found p.rank) p q place stands t
+    relocked_at place stands (answer.Older h) t = absurd (false≢true (only t.found (answer.Older h) (holder_at (machine t.found) object.0) (said (answer.Older h) t)))
+    relocked_at place stands (answer.Younger h) t = stands_still script (λ found. answer.Younger h ≡ relocked_answer found p.rank) p q place stands t

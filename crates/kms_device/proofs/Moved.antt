@@ -46,7 +46,7 @@ use Rattle.kms_check.proofs.Asked.{IsAsked, asked-touches}
 use Rattle.kms_check.proofs.Covering.{HasAll, accepted-states}
 use Rattle.kms_core.specs.Decisions.{labels_of, world}
 use Rattle.kms_core.specs.Run.{Run, machine}
-use Rattle.kms_device.specs.declared.attempt.Attempt.{Attempt}
+use Rattle.kms_device.specs.declared.attempt.Findings.{Findings}
 use Rattle.kms_device.specs.Asking.{AreOfLocks, HoldsEach, IsAcceptedWith, IsDecidingFor, MayAskFor, MayBeRefused, MayBeSwapped, MayBeTested}
 use Rattle.kms_device.specs.Attempts.{AreLookedUp}
 use Rattle.kms_device.specs.Turns.{DevicePass, run_seen}
@@ -119,7 +119,7 @@ same_labels : (f : ℕ → Look) (labels : List ℕ) → map (λ (l : ℕ × Loo
 same_labels f [] = refl
 same_labels f (label ∷ labels) = ap (λ xs. label ∷ xs) (same_labels f labels)
 
-module _ (script : Script) (p : DevicePass) (kept : Attempt) (ticket : Ticket) (request : Request) (used : List (ℕ × Look)) (c : TakesFor script p kept ticket request used) where
+module _ (script : Script) (p : DevicePass) (kept : Findings) (ticket : Ticket) (request : Request) (used : List (ℕ × Look)) (c : TakesFor script p kept ticket request used) where
   abbrev R : Run
   R = run_seen script p
 

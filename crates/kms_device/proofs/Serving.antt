@@ -28,9 +28,9 @@ use Rattle.kms_core.specs.Decisions.{world}
 use Rattle.kms_core.specs.Locks.{present_state}
 use Rattle.kms_core.specs.Run.{Run, machine}
 use Rattle.kms_core.specs.States.{state_of_kind}
-use Rattle.kms_device.specs.declared.attempt.Attempt.{Attempt}
+use Rattle.kms_device.specs.declared.attempt.Findings.{Findings}
 use Rattle.kms_device.specs.Asking.{AreOfLocks, HoldsEach}
-use Rattle.kms_device.specs.Attempts.{AreLookedUp, Serves, new_attempt, taken_in}
+use Rattle.kms_device.specs.Attempts.{AreLookedUp, Serves, no_findings, taken_in}
 use Rattle.kms_device.specs.Trying.{with_state}
 use Rattle.kms_device.specs.Turns.{DevicePass, MayBeFound, run_seen}
 use Rattle.kms_device.proofs.Deciding.{of_locks, request-found}
@@ -78,7 +78,7 @@ none_fresh = record {
   conns = λ index both is. absurd (no_state 8 index both is);
 }
 
-pub serves_new : (r : Run) (client : ℕ) → Serves r client new_attempt
+pub serves_new : (r : Run) (client : ℕ) → Serves r client no_findings
 serves_new r client = record { looks = λ used is. absurd cc; states = none_of_locks r client; fresh = none_fresh }
 
 -- states stay those of the locks where the context holds no less and the world is the same
@@ -176,7 +176,7 @@ fresh_more d id s fresh = by (may_duplicate d id s) refl
 -- Both
 
 -- what serves where a pass has seen so much serves in what its turn finds
-pub serves_found : (script : Script) (p : DevicePass) (found : Run) → MayBeFound script p found → (kept : Attempt) → Serves (run_seen script p) p.rank kept → Serves found p.rank kept
+pub serves_found : (script : Script) (p : DevicePass) (found : Run) → MayBeFound script p found → (kept : Findings) → Serves (run_seen script p) p.rank kept → Serves found p.rank kept
 serves_found script p found f kept serves = record {
   looks = λ used is.
       (let looked = serves.looks used is in
@@ -192,7 +192,7 @@ serves_found script p found f kept serves = record {
 }
 
 -- through a step of the client's own that changes no state and drops no lock
-pub serves_later : (r r2 : Run) (client : ℕ) (kept : Attempt) → r2.script ≡ r.script → IsStart r.steps r2.steps → (place_at (machine r2) client).command ≡ (place_at (machine r) client).command
+pub serves_later : (r r2 : Run) (client : ℕ) (kept : Findings) → r2.script ≡ r.script → IsStart r.steps r2.steps → (place_at (machine r2) client).command ≡ (place_at (machine r) client).command
     → world r2 ≡ world r → ((object : ℕ) → holds (machine r) client object ≡ true → holds (machine r2) client object ≡ true) → Serves r client kept → Serves r2 client kept
 serves_later r r2 client kept scripts begins same worlds keeps serves = record {
   looks = λ used is. looked_later r r2 client used scripts begins same (serves.looks used is);
@@ -201,7 +201,7 @@ serves_later r r2 client kept scripts begins same worlds keeps serves = record {
 }
 
 -- with the state of an object that the context holds
-pub serves_more : (r : Run) (client : ℕ) (kept : Attempt) (id : ObjId) → holds (machine r) client id.0 ≡ true → is_lockable r.script.topology (kind_of id.0) (index_of id.0) ≡ true → first_id (kind_of id.0) ≤ id.0
+pub serves_more : (r : Run) (client : ℕ) (kept : Findings) (id : ObjId) → holds (machine r) client id.0 ≡ true → is_lockable r.script.topology (kind_of id.0) (index_of id.0) ≡ true → first_id (kind_of id.0) ≤ id.0
     → Serves r client kept → Serves r client (with_state kept id (present_state r id))
 serves_more r client kept id held there is_id serves = record {
   looks = serves.looks;

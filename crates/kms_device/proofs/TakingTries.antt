@@ -30,15 +30,16 @@ use Rattle.kms_core.specs.declared.calls.contexts.Locked.{Locked}
 use Rattle.kms_core.specs.declared.calls.contexts.Locked.TheVariants as answer
 use Rattle.kms_core.specs.Locks.{lock_steps, locked_answer, locked_as, present_state}
 use Rattle.kms_core.specs.Run.{Run, machine}
-use Rattle.kms_device.specs.declared.attempt.Attempt.{Attempt}
+use Rattle.kms_device.specs.declared.attempt.Findings.{Findings}
 use Rattle.kms_device.specs.declared.attempt.Attempted.TheVariants as attempted
-use Rattle.kms_device.specs.Attempts.{AreLookedUp, AsksNext, ComesNext, ComesNextAt, FindsRequest, IsInVain, WaitsAt, states_after, step_of_move, taken_in}
-use Rattle.kms_device.specs.Trying.{DidAndKeeps, IsReady, attempted_of, kept_of, with_state}
+use Rattle.kms_device.specs.Attempts.{AreLookedUp, AsksNext, ComesNext, ComesNextAt, FindsRequest, IsInVain, StandsAt, WaitsAt, states_after, step_of_move, taken_in}
+use Rattle.kms_device.specs.Trying.{DidAndKeeps, IsReady, attempted_of, doing_of, kept_of, with_state}
 use Rattle.kms_device.specs.Turns.{DevicePass, DeviceTurn, run_seen}
 use Rattle.kms_device.proofs.Deciding.{request-found}
 use Rattle.kms_device.proofs.LockTries.{now_held, serves-taken, still_held}
 use Rattle.kms_device.proofs.Serving.{serves_found, serves_more}
 use Rattle.kms_device.proofs.HeldObjects.{IsLockableId, held_object}
+use Rattle.kms_device.proofs.Places.{stands_next, stands_still}
 use Rattle.kms_device.proofs.Stepping.{found-is, found-place, open-after}
 use Rattle.kms_device.proofs.TurnsTried.{doing-found, finds_request, place-now, serves-next, serves_after, stepped_on, stays_after, waits_for, went_on}
 
@@ -109,13 +110,13 @@ and-no false = refl
 
 -- A client that takes locks for a request, with look-ups of its labels
 
-pub record TakesFor (script : Script) (p : DevicePass) (kept : Attempt) (ticket : Ticket) (request : Request) (used : List (ℕ × Look)) : Type 0 where
+pub record TakesFor (script : Script) (p : DevicePass) (kept : Findings) (ticket : Ticket) (request : Request) (used : List (ℕ × Look)) : Type 0 where
   pub ready : IsReady script p kept
   pub taking : doing_at (machine (run_seen script p)) p.rank ≡ doing.Taking ticket
   pub at : request_at script (machine (run_seen script p)) p.rank ≡ Some request
   pub has : kept.looks ≡ Some used
 
-module _ (script : Script) (p q : DevicePass) (kept : Attempt) (ticket : Ticket) (request : Request) (used : List (ℕ × Look)) (c : TakesFor script p kept ticket request used) where
+module _ (script : Script) (p q : DevicePass) (kept : Findings) (ticket : Ticket) (request : Request) (used : List (ℕ × Look)) (c : TakesFor script p kept ticket request used) where
   -- what it asks for, where the client is found so
   abbrev pub asks_at : (r : Run) (asks : Move) → r.script ≡ script → request_at r.script (machine r) p.rank ≡ Some request → AreLookedUp r p.rank used
       → IsMove script.topology request used kept.states asks → AsksNext p.seen r p.rank kept used
@@ -262,3 +263,37 @@ module _ (script : Script) (p q : DevicePass) (kept : Attempt) (ticket : Ticket)
         object : IsLockableId script.topology id.0
         object = held_object (run_seen script q) p.rank id.0 (open-after script (Says (answer.Own s)) [] p q t) held
     locked (answer.Held h) t = absurd (held-of (machine t.found) p.rank (present_state t.found id) h (holder_at (machine t.found) id.0) t.said)
+
+    -- where the client stands then
+    pub locked_at : (place : Place) → StandsAt (run_seen script p) p.rank place → (a : Locked) → DeviceTurn script (λ found. a ≡ locked_answer found p.rank id) (lock_steps p.rank id a) p q
+        → StandsAt (run_seen script q) p.rank (record place { doing = doing_of ticket id a place.doing })
+    unfolding next
+    locked_at place stands (answer.Got s) t =
+        stands_next script (Says (answer.Got s)) p q place stands (lock_step p.rank id.0) t (doing.Taking ticket)
+        (ap (λ m. place_at m p.rank) taken ∙ ap {B = Place} (λ d. record { command = (place_at (machine t.found) p.rank).command; doing = d }) there)
+      where
+        there : doing_at (machine t.found) p.rank ≡ doing.Taking ticket
+        there = doing-found script (Says (answer.Got s)) p q kept c.ready (lock_step p.rank id.0) refl t ∙ c.taking
+
+        got : (holder_at (machine t.found) id.0 ≡ None) × (s ≡ present_state t.found id)
+        got = got-of (machine t.found) p.rank (present_state t.found id) s (holder_at (machine t.found) id.0) t.said
+
+        taken : next script (machine t.found) (lock_step p.rank id.0) ≡ put_lock (machine t.found) id.0 (Some p.rank)
+        taken = ap (λ o. effects.locked (machine t.found) p.rank o (holder_at (machine t.found) o)) object-is ∙ ap (effects.locked (machine t.found) p.rank id.0) got.0
+    locked_at place stands (answer.Older h) t =
+        stands_next script (Says (answer.Older h)) p q place stands (lock_step p.rank id.0) t (doing.MustBackOff ticket id)
+        (ap (λ m. place_at m p.rank) meets
+        ∙ (place-now (machine t.found) p.rank (doing.MustBackOff (record { 0 = ticket_of (doing_at (machine t.found) p.rank) }) (obj_id id.0))
+        ∙ ap {B = Place} (λ d. record { command = (place_at (machine t.found) p.rank).command; doing = doing.MustBackOff (record { 0 = ticket_of d }) id }) there))
+      where
+        there : doing_at (machine t.found) p.rank ≡ doing.Taking ticket
+        there = doing-found script (Says (answer.Older h)) p q kept c.ready (lock_step p.rank id.0) refl t ∙ c.taking
+
+        older : OneOf (holder_at (machine t.found) id.0) (λ holder. nat_lt (ticket_at (machine t.found) holder).0 (ticket_at (machine t.found) p.rank).0 ≡ true)
+        older = older-of (machine t.found) p.rank (present_state t.found id) h (holder_at (machine t.found) id.0) t.said
+
+        meets : next script (machine t.found) (lock_step p.rank id.0) ≡ now_doing (machine t.found) p.rank (doing.MustBackOff (record { 0 = ticket_of (doing_at (machine t.found) p.rank) }) (obj_id id.0))
+        meets = ap (λ o. effects.locked (machine t.found) p.rank o (holder_at (machine t.found) o)) object-is ∙ ap (effects.locked (machine t.found) p.rank id.0) older.1
+    locked_at place stands (answer.Own s) t = stands_still script (Says (answer.Own s)) p q place stands t
+    locked_at place stands (answer.Younger h) t = stands_still script (Says (answer.Younger h)) p q place stands t
+    locked_at place stands (answer.Held h) t = stands_still script (Says (answer.Held h)) p q place stands t

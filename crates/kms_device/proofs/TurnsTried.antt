@@ -16,9 +16,9 @@ use Rattle.kms_model.specs.Machine.Steps.{returning_of}
 use Rattle.kms_laws.proofs.Basics.{read_same}
 use Rattle.kms_histlock.specs.Rules.{IsStart}
 use Rattle.kms_core.specs.Run.{Run, machine}
-use Rattle.kms_device.specs.declared.attempt.Attempt.{Attempt}
+use Rattle.kms_device.specs.declared.attempt.Findings.{Findings}
 use Rattle.kms_device.specs.declared.attempt.Attempted.TheVariants as attempted
-use Rattle.kms_device.specs.Attempts.{ComesNext, ComesNextAt, FindsRequest, MayAttempt, Serves, StaysAt, Stepped, WaitsAt, looks_after, states_after, Went, new_attempt}
+use Rattle.kms_device.specs.Attempts.{ComesNext, ComesNextAt, FindsRequest, MayAttempt, Serves, StaysAt, Stepped, WaitsAt, looks_after, states_after, Went, no_findings}
 use Rattle.kms_device.specs.Steps.{owner}
 use Rattle.kms_device.specs.Trying.{DidAndKeeps, DidNothing, IsReady}
 use Rattle.kms_device.specs.Turns.{DevicePass, DeviceTurn, run_seen}
@@ -39,7 +39,7 @@ finds_request script says xs p q t = record {
 pub place-now : (m : Machine) (client : ℕ) (d : Doing) → place_at (now_doing m client d) client ≡ record { command = (place_at m client).command; doing = d }
 place-now m client d = read_same _ m.contexts.places client _
 
-module _ (script : Script) (says : Run → Type 0) (p q : DevicePass) (kept : Attempt) (ready : IsReady script p kept) where
+module _ (script : Script) (says : Run → Type 0) (p q : DevicePass) (kept : Findings) (ready : IsReady script p kept) where
   -- A turn that added nothing.
   module _ (t : DeviceTurn script says [] p q) where
     pub went_on : Went [] p q
@@ -125,7 +125,7 @@ module _ (script : Script) (says : Run → Type 0) (p q : DevicePass) (kept : At
     begins = (x ∷ [], seen-after script says (x ∷ []) p q t)
 
     -- it goes on at its command
-    pub stepped_on : (keeps : Attempt) (used : List (ℕ × Look)) → keeps.looks ≡ looks_after kept used x → keeps.states ≡ states_after t.found p.rank kept.states x → ComesNext p.seen t.found p.rank kept used x → (next script (machine t.found) x).records.replies ≡ (machine t.found).records.replies
+    pub stepped_on : (keeps : Findings) (used : List (ℕ × Look)) → keeps.looks ≡ looks_after kept used x → keeps.states ≡ states_after t.found p.rank kept.states x → ComesNext p.seen t.found p.rank kept used x → (next script (machine t.found) x).records.replies ≡ (machine t.found).records.replies
         → (place_at (next script (machine t.found) x) p.rank).command ≡ (place_at (machine t.found) p.rank).command
         → returning_of (doing_at (next script (machine t.found) x) p.rank) ≡ None
         → Serves (run_seen script q) p.rank keeps → DidAndKeeps script p kept q attempted.Did keeps
@@ -153,10 +153,10 @@ module _ (script : Script) (says : Run → Type 0) (p q : DevicePass) (kept : At
         now = next-after script says x p q t
 
   -- A context begins.
-  pub began : doing_at (machine (run_seen script p)) p.rank ≡ doing.Idle → DeviceTurn script says (step.Begin p.rank ∷ []) p q → DidAndKeeps script p kept q attempted.Did new_attempt
+  pub began : doing_at (machine (run_seen script p)) p.rank ≡ doing.Idle → DeviceTurn script says (step.Begin p.rank ∷ []) p q → DidAndKeeps script p kept q attempted.Did no_findings
   unfolding next
   began idle t =
-      stepped_on (step.Begin p.rank) refl t new_attempt [] refl refl
+      stepped_on (step.Begin p.rank) refl t no_findings [] refl refl
       (subst (λ d. ComesNextAt d p.seen t.found p.rank kept [] (step.Begin p.rank)) (sym (doing-found (step.Begin p.rank) refl t ∙ idle)) refl)
       refl
       (ap (λ (z : Place). z.command) (place-now (machine t.found) p.rank (doing.Taking (record { 0 = (machine t.found).contexts.tickets }))))
@@ -165,10 +165,10 @@ module _ (script : Script) (says : Run → Type 0) (p q : DevicePass) (kept : At
 
   -- It gives way.
   pub gave_way : (ticket : Ticket) (object : ObjId) → doing_at (machine (run_seen script p)) p.rank ≡ doing.MustBackOff ticket object → DeviceTurn script says (step.BackOff p.rank ∷ []) p q
-      → DidAndKeeps script p kept q attempted.Did (record kept { states = new_attempt.states })
+      → DidAndKeeps script p kept q attempted.Did (record kept { states = no_findings.states })
   unfolding next
   gave_way ticket object must t =
-      stepped_on (step.BackOff p.rank) refl t (record kept { states = new_attempt.states }) [] refl refl
+      stepped_on (step.BackOff p.rank) refl t (record kept { states = no_findings.states }) [] refl refl
       (subst (λ d. ComesNextAt d p.seen t.found p.rank kept [] (step.BackOff p.rank)) (sym there) refl)
       refl command
       (ap (λ (z : Place). returning_of z.doing) place ∙ ap (λ d. returning_of (backed_off d)) there)

@@ -9,6 +9,7 @@ use Rattle.kms_model.specs.declared.replies.Step.{Step}
 use Rattle.kms_model.specs.declared.replies.Step.TheVariants as step
 use Rattle.kms_model.specs.declared.runs.Doing.{Doing}
 use Rattle.kms_model.specs.declared.runs.Doing.TheVariants as doing
+use Rattle.kms_model.specs.declared.runs.Place.{Place}
 use Rattle.kms_model.specs.declared.scripts.Request.{Request}
 use Rattle.kms_model.specs.declared.scripts.Script.{Script}
 use Rattle.kms_model.specs.declared.worlds.Look.{Look}
@@ -32,6 +33,7 @@ use Rattle.kms_core.specs.Locks.{object_or_zero, present_state}
 use Rattle.kms_core.specs.Run.{Run, machine}
 use Rattle.kms_core.specs.Swaps.{late_reply}
 use Rattle.kms_device.specs.declared.attempt.Attempt.{Attempt}
+use Rattle.kms_device.specs.declared.attempt.Findings.{Findings}
 use Rattle.kms_device.specs.declared.attempt.Attempted.{Attempted}
 use Rattle.kms_device.specs.declared.attempt.Attempted.TheVariants as attempted
 use Rattle.kms_device.specs.Asking.{AreOfLocks}
@@ -64,6 +66,11 @@ pub record MayAttempt (r : Run) (client : ℕ) : Type 0 where
   pub at : request_at r.script (machine r) client ≡ Some request
   pub awake : returning_of (doing_at (machine r) client) ≡ None
 
+-- A client stands at a place, in a history of a well-formed script that was not ended.
+pub record StandsAt (r : Run) (client : ℕ) (place : Place) : Type 0 where
+  pub is_open : IsOpen r
+  pub at : place ≡ place_at (machine r) client
+
 -- look-ups tell what each label of the request at which a client stands named after some beginning of the history
 pub record AreLookedUp (r : Run) (client : ℕ) (used : List (ℕ × Look)) : Type 0 where
   pub request : Request
@@ -73,12 +80,15 @@ pub record AreLookedUp (r : Run) (client : ℕ) (used : List (ℕ × Look)) : Ty
   pub told : used ≡ lookups (world (record r { steps = early })) request
 
 -- what was kept of no attempt
+abbrev pub no_findings : Findings
+no_findings = record { looks = None; states = none_duplicated }
+
 abbrev pub new_attempt : Attempt
-new_attempt = record { looks = None; states = none_duplicated }
+new_attempt = record { kept = no_findings; place = None }
 
 -- What was kept serves for a client's next attempt: its look-ups are of the client's request, and its states are those that the
 -- locks of the client's context gave. It is so of what is new, and of what the client's last attempt left.
-pub record Serves (r : Run) (client : ℕ) (kept : Attempt) : Type 0 where
+pub record Serves (r : Run) (client : ℕ) (kept : Findings) : Type 0 where
   pub looks : (used : List (ℕ × Look)) → kept.looks ≡ Some used → AreLookedUp r client used
   pub states : AreOfLocks r client kept.states
   pub fresh : AreFresh kept.states
@@ -108,7 +118,7 @@ pub record Uses (from : List Step) (r : Run) (client : ℕ) (kept : Option (List
   pub made : kept ≡ None → IsStart from looked.early
 
 -- what a client that takes locks for a request asks for next, by such look-ups and by the states that were kept
-pub record AsksNext (from : List Step) (r : Run) (client : ℕ) (kept : Attempt) (used : List (ℕ × Look)) : Type 0 where
+pub record AsksNext (from : List Step) (r : Run) (client : ℕ) (kept : Findings) (used : List (ℕ × Look)) : Type 0 where
   pub request : Request
   pub at : request_at r.script (machine r) client ≡ Some request
   pub uses : Uses from r client kept.looks used
@@ -116,26 +126,26 @@ pub record AsksNext (from : List Step) (r : Run) (client : ℕ) (kept : Attempt)
   pub is_move : IsMove r.script.topology request used kept.states asks
 
 -- the step of what it asks for
-pub record ComesNextTaking (from : List Step) (r : Run) (client : ℕ) (kept : Attempt) (used : List (ℕ × Look)) (next : Step) : Type 0 where
+pub record ComesNextTaking (from : List Step) (r : Run) (client : ℕ) (kept : Findings) (used : List (ℕ × Look)) (next : Step) : Type 0 where
   pub move : AsksNext from r client kept used
   pub next_is : next ≡ step_of_move r client move.request move.asks
 
 -- by where it stands; look-ups are used while it takes locks alone
-abbrev pub ComesNextAt : Doing → List Step → Run → ℕ → Attempt → List (ℕ × Look) → Step → Type 0
+abbrev pub ComesNextAt : Doing → List Step → Run → ℕ → Findings → List (ℕ × Look) → Step → Type 0
 ComesNextAt doing.Idle from r client kept used next = next ≡ step.Begin client
 ComesNextAt (doing.Taking t) from r client kept used next = ComesNextTaking from r client kept used next
 ComesNextAt (doing.MustBackOff t object) from r client kept used next = next ≡ step.BackOff client
 ComesNextAt (doing.BackedOff t object) from r client kept used next = next ≡ step.Relock client
 ComesNextAt (doing.Returning k) from r client kept used next = ⊥
 
-abbrev pub ComesNext : List Step → Run → ℕ → Attempt → List (ℕ × Look) → Step → Type 0
+abbrev pub ComesNext : List Step → Run → ℕ → Findings → List (ℕ × Look) → Step → Type 0
 ComesNext from r client kept used next = ComesNextAt (doing_at (machine r) client) from r client kept used next
 
 -- What is kept behind an attempt that gives no reply
 
 -- The look-ups, by the step that comes next: none behind one that begins a context, those that were used where a lock or a
 -- decision is asked for, and else those that were kept.
-abbrev pub looks_after : Attempt → List (ℕ × Look) → Step → Option (List (ℕ × Look))
+abbrev pub looks_after : Findings → List (ℕ × Look) → Step → Option (List (ℕ × Look))
 looks_after kept used (step.Begin c) = None
 looks_after kept used (step.BackOff c) = kept.looks
 looks_after kept used (step.Relock c) = kept.looks
@@ -169,7 +179,7 @@ pub record FindsRequest (script : Script) (client : ℕ) (before : DevicePass) (
   pub place : place_at (machine found) client ≡ place_at (machine (run_seen script before)) client
 
 -- The step that comes next was made in the history that was found.
-pub record Stepped (script : Script) (client : ℕ) (before after : DevicePass) (old : Attempt) : Type 0 where
+pub record Stepped (script : Script) (client : ℕ) (before after : DevicePass) (old : Findings) : Type 0 where
   pub found : Run
   pub finds : FindsRequest script client before found
   pub used : List (ℕ × Look)
@@ -180,14 +190,14 @@ pub record Stepped (script : Script) (client : ℕ) (before after : DevicePass) 
   pub went : Went (next ∷ []) before after
 
 -- it records no reply
-pub record SteppedOn (script : Script) (client : ℕ) (before after : DevicePass) (old new : Attempt) : Type 0 where
+pub record SteppedOn (script : Script) (client : ℕ) (before after : DevicePass) (old new : Findings) : Type 0 where
   pub stepped : Stepped script client before after old
   pub looks : new.looks ≡ looks_after old stepped.used stepped.next
   pub states : new.states ≡ states_after stepped.found client old.states stepped.next
   pub silent : (machine (run_seen script after)).records.replies ≡ (machine stepped.found).records.replies
 
 -- No step was made: the object that is asked for next is the client's already, and gave the state that was lacking.
-pub record TookAgain (script : Script) (client : ℕ) (before after : DevicePass) (old new : Attempt) : Type 0 where
+pub record TookAgain (script : Script) (client : ℕ) (before after : DevicePass) (old new : Findings) : Type 0 where
   pub went : Went [] before after
   pub object : ObjId
   pub finds : FindsRequest script client before (run_seen script after)
@@ -200,7 +210,7 @@ pub record TookAgain (script : Script) (client : ℕ) (before after : DevicePass
 
 -- No step was made: a decision is asked for next, and a label named something else, in the history that was found, than the
 -- look-ups told that were used. All look-ups were made anew.
-pub record LookedAgain (script : Script) (client : ℕ) (before after : DevicePass) (old new : Attempt) : Type 0 where
+pub record LookedAgain (script : Script) (client : ℕ) (before after : DevicePass) (old new : Findings) : Type 0 where
   pub went : Went [] before after
   pub found : Run
   pub finds : FindsRequest script client before found
@@ -221,17 +231,17 @@ IsInVain r client used (move.Lock id) = holds (machine r) client id.0 ≡ false
 IsInVain r client used (move.Refuse why) = All (λ told. told.1 ≡ look_up (world r) told.0) used
 IsInVain r client used (move.Accept checked resolved) = All (λ told. told.1 ≡ look_up (world r) told.0) used
 
-pub record AsksInVain (from : List Step) (r : Run) (client : ℕ) (kept : Attempt) (used : List (ℕ × Look)) (next : Step) : Type 0 where
+pub record AsksInVain (from : List Step) (r : Run) (client : ℕ) (kept : Findings) (used : List (ℕ × Look)) (next : Step) : Type 0 where
   pub comes : ComesNextTaking from r client kept used next
   pub in_vain : IsInVain r client used comes.move.asks
 
-abbrev pub WaitsAt : Doing → List Step → Run → ℕ → Attempt → List (ℕ × Look) → Step → Type 0
+abbrev pub WaitsAt : Doing → List Step → Run → ℕ → Findings → List (ℕ × Look) → Step → Type 0
 WaitsAt (doing.Taking t) from r client kept used next = AsksInVain from r client kept used next
 WaitsAt (doing.BackedOff t object) from r client kept used next = next ≡ step.Relock client
 WaitsAt _ from r client kept used next = ⊥
 
 -- No step was made: the one that comes next is not legal in the history that was found, of this length.
-pub record AttemptWaits (script : Script) (client length_found : ℕ) (before after : DevicePass) (old new : Attempt) : Type 0 where
+pub record AttemptWaits (script : Script) (client length_found : ℕ) (before after : DevicePass) (old new : Findings) : Type 0 where
   pub went : Went [] before after
   pub found : Run
   pub finds : FindsRequest script client before found
@@ -251,13 +261,13 @@ pub record IsLastReply (m : Machine) (client command : ℕ) (reply : Reply) : Ty
   pub last : m.records.replies ≡ answered client command place reply ∷ before
 
 -- the step that comes next was made, and it records the reply to the client's command
-pub record AnsweredBy (script : Script) (client : ℕ) (reply : Reply) (before after : DevicePass) (old new : Attempt) : Type 0 where
+pub record AnsweredBy (script : Script) (client : ℕ) (reply : Reply) (before after : DevicePass) (old new : Findings) : Type 0 where
   pub stepped : Stepped script client before after old
   pub records : IsLastReply (machine (run_seen script after)) client (place_at (machine (run_seen script before)) client).command reply
-  pub anew : new ≡ new_attempt
+  pub anew : new ≡ no_findings
 
 -- what an attempt did that answers so
-abbrev pub IsAttempt : Script → ℕ → DevicePass → Attempt → DevicePass → Attempt → Attempted → Type 0
+abbrev pub IsAttempt : Script → ℕ → DevicePass → Findings → DevicePass → Findings → Attempted → Type 0
 IsAttempt script client before old after new attempted.Did =
     SteppedOn script client before after old new ⊎ (TookAgain script client before after old new ⊎ LookedAgain script client before after old new)
 IsAttempt script client before old after new (attempted.NotYet n) = AttemptWaits script client n before after old new
@@ -274,7 +284,7 @@ GoesOnAt before after client (attempted.NotYet n) = StaysAt before after client
 -- an attempt that was made: the pass and what was kept before it, and what came of it
 pub record MadeAttempt : Type 0 where
   pub pass : DevicePass
-  pub kept : Attempt
+  pub kept : Findings
   pub did : Attempted
 
 abbrev pub gives_reply : Attempted → Bool
@@ -283,8 +293,8 @@ gives_reply _ = false
 
 -- Attempts one after the other, the newest first, each with what the one before it left, and the first with nothing kept. None
 -- gave a reply.
-abbrev pub AreAttempts : Script → ℕ → DevicePass → List MadeAttempt → DevicePass → Attempt → Type 0
-AreAttempts script client before [] after kept = (after ≡ before) × (kept ≡ new_attempt)
+abbrev pub AreAttempts : Script → ℕ → DevicePass → List MadeAttempt → DevicePass → Findings → Type 0
+AreAttempts script client before [] after kept = (after ≡ before) × (kept ≡ no_findings)
 AreAttempts script client before (made ∷ earlier) after kept =
     AreAttempts script client before earlier made.pass made.kept × (IsAttempt script client made.pass made.kept after kept made.did × (gives_reply made.did ≡ false))
 
@@ -303,9 +313,9 @@ pub record Committed (script : Script) (client : ℕ) (reply : Reply) (before af
   pub attempts : List MadeAttempt
   -- the pass and what was kept before the last one
   pub until : DevicePass
-  pub kept : Attempt
+  pub kept : Findings
   pub are_attempts : AreAttempts script client before attempts until kept
-  pub answers : AnsweredBy script client reply until after kept new_attempt
+  pub answers : AnsweredBy script client reply until after kept no_findings
 
 -- some steps of a client, after which it stands at its request still, which can be tried again
 pub record BrokenOff (script : Script) (client : ℕ) (before after : DevicePass) : Type 0 where
@@ -316,6 +326,6 @@ pub record BrokenOff (script : Script) (client : ℕ) (before after : DevicePass
   pub attempts : List MadeAttempt
   -- the pass and what was kept behind them
   pub until : DevicePass
-  pub kept : Attempt
+  pub kept : Findings
   pub are_attempts : AreAttempts script client before attempts until kept
   pub last : Went [] until after

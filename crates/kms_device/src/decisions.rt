@@ -16,7 +16,17 @@ use crate::kernel::Pass;
 use kms_core::{Core, Decided};
 use kms_model::{Checked, Lookups, NoMemory, Refusal, Resolved, Ticket};
 use std::alloc::Global;
+use std::boxed::Box;
 use std::sync::Wait;
+
+/// An accepted request: what its check gave, and what its labels name.
+#[derive(Drop)]
+pub struct Accepted {
+    /// What its check gave.
+    pub checked: Box<Checked>,
+    /// What its labels name.
+    pub resolved: Resolved,
+}
 
 impl Device {
     /// Refuses the request of the client of the pass, whose context has the ticket and takes locks, as the machine's `refuse` does.
@@ -72,18 +82,19 @@ impl Device {
         pass: &mut Pass,
         t: Ticket,
         used: &Lookups,
-        checked: &Checked,
-        resolved: &Resolved,
+        accepted: &Accepted,
     ) -> Result<Decided, NoMemory>
         requires own { pass.old.lock ≡ self.now.lock }
         requires may { MayBeSwapped (run_seen self.now.script pass.old) pass.old.rank t used.now
-            checked.now resolved.now }
+            accepted.now.checked.value accepted.now.resolved }
         ensures { DeviceTurn self.now.script
             (λ found. IfOk result (IsDecided (look_up (world found)) used.now
             (swap_answer found pass.old.rank)))
             (if_ok result (steps_of pass.old.rank (step.Swap pass.old.rank)))
             pass.old pass.new }
     {
+        let checked = &*accepted.checked;
+        let resolved = &accepted.resolved;
         self.turn(rt, pass, |core: &mut Core| {
             core.swap(alloc, t, used, checked, resolved)
         })

@@ -10,6 +10,7 @@ mod kernel;
 mod tries;
 mod workers;
 
-pub use attempt::{Attempt, Attempted};
+pub use attempt::{Attempt, Attempted, Findings};
+pub use decisions::Accepted;
 pub use device::Device;
 pub use kernel::{Kernel, Pass};

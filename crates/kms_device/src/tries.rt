@@ -1,23 +1,24 @@
 //! The parts of an attempt, by where the client stands.
-ghost use Rattle.std.specs.Prelude.{◌≡◌, Some, IfOk, OnErr, is_some, true, false};
+ghost use Rattle.std.specs.Prelude.{◌≡◌, Some, None, IfOk, IfSome, OnErr, is_some, true, false};
 ghost use Rattle.kms_model.specs.declared.runs.Doing.TheVariants as doing;
 ghost use Rattle.kms_model.specs.Machine.State.{doing_at, request_at};
 ghost use Rattle.kms_model.specs.Request.Flags.{is_test};
 ghost use Rattle.kms_check.specs.Moves.{AcceptedAs, AsksFor, RefusedBy};
 ghost use Rattle.kms_core.specs.Run.{machine};
-ghost use Rattle.kms_device.specs.Attempts.{MayAttempt, Serves};
-ghost use Rattle.kms_device.specs.Trying.{Concludes, IsReady, LooksInVain, TakesLocksFor, Tried, Works, attempted_of, kept_in, kept_of, with_state};
+ghost use Rattle.kms_device.specs.Attempts.{MayAttempt, Serves, StandsAt, gives_reply, taken_in};
+ghost use Rattle.kms_device.specs.Trying.{Concludes, IsReady, IsToldOrKnown, LooksInVain, StandsAfter, TakesLocksFor, Tried, Works, attempted_of, doing_of, kept_in, kept_of, place_behind};
 ghost use Rattle.kms_device.specs.Turns.{run_seen};
 
-use crate::attempt::{Attempt, Attempted};
+use crate::attempt::{Attempt, Attempted, Findings};
+use crate::decisions::Accepted;
 use crate::device::Device;
 use crate::kernel::Pass;
-use kms_check::{Move, next_move};
+use kms_check::{Move, have_places, next_move};
 use kms_core::{Decided, Locked};
 use kms_io::{Gate, Point};
 use kms_model::{
-    Checked, Doing, Duplicates, Lookups, NoMemory, ObjId, ObjState, Refusal, Request, Resolved,
-    Ticket, request_of,
+    Doing, Duplicates, Lookups, NoMemory, ObjId, ObjState, Place, Refusal, Request, Ticket,
+    request_of,
 };
 use kms_props::is_test;
 use kms_state::Duplicating;
@@ -25,7 +26,7 @@ use std::alloc::Global;
 use std::sync::Wait;
 
 impl Device {
-    /// The step that comes next by where the client stands. What is kept then is given too.
+    /// The step that comes next by where the client stands. `work` has what is kept then, and where it stands, unless that is not known.
     pub(crate) fn try_step<W: Wait, G: Gate>(
         &self,
         rt: &W,
@@ -33,25 +34,67 @@ impl Device {
         pass: &mut Pass,
         client: u32,
         gate: &G,
-        kept: Attempt,
-    ) -> Result<(Attempted, Attempt), NoMemory>
+        work: &mut Attempt,
+    ) -> Result<Attempted, NoMemory>
         requires own { pass.old.lock ≡ self.now.lock }
         requires whose { pass.old.rank ≡ client }
         requires may { MayAttempt (run_seen self.now.script pass.old) client }
-        requires serves { Serves (run_seen self.now.script pass.old) client kept }
-        ensures { Tried self.now.script pass.old kept pass.new result }
+        requires serves { Serves (run_seen self.now.script pass.old) client work.old.kept }
+        requires stands { IfSome work.old.place
+            (StandsAt (run_seen self.now.script pass.old) client) }
+        ensures tried { Tried self.now.script pass.old work.old.kept pass.new work.new.kept result }
+        ensures stands { IfSome work.new.place
+            (StandsAt (run_seen self.now.script pass.new) client) }
+        ensures keeps { IfOk result (λ did. gives_reply did ≡ false
+            → is_some work.new.place ≡ true) }
+        ensures ends { IfOk result (λ did. gives_reply did ≡ true → work.new.place ≡ None) }
     {
-        let place = self.place(rt, pass, client);
-        match place.doing {
-            Doing::Idle => self.enter(rt, alloc, pass, client, kept),
-            Doing::MustBackOff(t, object) => self.give_way(rt, pass, t, object, kept),
-            Doing::BackedOff(t, object) => self.take_first(rt, pass, t, object, kept),
+        let mut here = self.stand(rt, pass, client, work.place.take());
+        let did = self.step_at(rt, alloc, pass, gate, &mut work.kept, &mut here)?;
+        work.place = place_behind(did, here);
+        Ok(did)
+    }
+
+    /// Where a client stands: no turn is taken where that is known.
+    fn stand<W: Wait>(&self, rt: &W, pass: &mut Pass, client: u32, known: Option<Place>) -> Place
+        requires own { pass.old.lock ≡ self.now.lock }
+        requires may { MayAttempt (run_seen self.now.script pass.old) client }
+        ensures { IsToldOrKnown self.now.script client known pass.old pass.new result }
+    {
+        match known {
+            Some(here) => here,
+            None => self.place(rt, pass, client),
+        }
+    }
+
+    /// The step that comes next of the client of the pass, which stands at a place, and where it stands then.
+    fn step_at<W: Wait, G: Gate>(
+        &self,
+        rt: &W,
+        alloc: Global,
+        pass: &mut Pass,
+        gate: &G,
+        kept: &mut Findings,
+        here: &mut Place,
+    ) -> Result<Attempted, NoMemory>
+        requires own { pass.old.lock ≡ self.now.lock }
+        requires ready { IsReady self.now.script pass.old kept.old }
+        requires stands { StandsAt (run_seen self.now.script pass.old) pass.old.rank here.old }
+        ensures tried { Tried self.now.script pass.old kept.old pass.new kept.new result }
+        ensures stands { StandsAfter (run_seen self.now.script pass.new) pass.old.rank result
+            here.new }
+    {
+        let client = pass.rank();
+        match here.doing {
+            Doing::Idle => self.enter(rt, alloc, pass, client, kept, here),
+            Doing::MustBackOff(t, object) => self.give_way(rt, pass, t, object, kept, here),
+            Doing::BackedOff(t, object) => self.take_first(rt, pass, t, object, kept, here),
             Doing::Taking(t) => {
-                let Some(request) = request_of(self.script(), client, place.command) else {
+                let Some(request) = request_of(self.script(), client, here.command) else {
                     unreachable!();
                 };
-                gate.at(rt, Point::Check, client, place.command);
-                self.move_on(rt, alloc, pass, Taking { t, request }, kept)
+                gate.at(rt, Point::Check, client, here.command);
+                self.move_on(rt, alloc, pass, Taking { t, request }, kept, here)
             }
             Doing::Returning(_commit) => unreachable!(),
         }
@@ -64,18 +107,23 @@ impl Device {
         alloc: Global,
         pass: &mut Pass,
         client: u32,
-        kept: Attempt,
-    ) -> Result<(Attempted, Attempt), NoMemory>
+        kept: &mut Findings,
+        here: &mut Place,
+    ) -> Result<Attempted, NoMemory>
         requires own { pass.old.lock ≡ self.now.lock }
         requires whose { pass.old.rank ≡ client }
-        requires ready { IsReady self.now.script pass.old kept }
+        requires ready { IsReady self.now.script pass.old kept.old }
         requires idle { doing_at (machine (run_seen self.now.script pass.old)) pass.old.rank
             ≡ doing.Idle }
-        ensures { Tried self.now.script pass.old kept pass.new result }
+        requires stands { StandsAt (run_seen self.now.script pass.old) pass.old.rank here.old }
+        ensures tried { Tried self.now.script pass.old kept.old pass.new kept.new result }
+        ensures stands { StandsAfter (run_seen self.now.script pass.new) pass.old.rank result
+            here.new }
     {
-        let _ = kept;
-        self.begin(rt, alloc, pass, client)?;
-        Ok((Attempted::Did, Attempt::new()))
+        let t = self.begin(rt, alloc, pass, client)?;
+        *kept = Findings::new();
+        here.doing = Doing::Taking(t);
+        Ok(Attempted::Did)
     }
 
     /// A context that must back off drops its locks; what they gave is kept no longer.
@@ -85,18 +133,22 @@ impl Device {
         pass: &mut Pass,
         t: Ticket,
         object: ObjId,
-        kept: Attempt,
-    ) -> Result<(Attempted, Attempt), NoMemory>
+        kept: &mut Findings,
+        here: &mut Place,
+    ) -> Result<Attempted, NoMemory>
         requires own { pass.old.lock ≡ self.now.lock }
-        requires ready { IsReady self.now.script pass.old kept }
+        requires ready { IsReady self.now.script pass.old kept.old }
         requires must { doing_at (machine (run_seen self.now.script pass.old)) pass.old.rank
             ≡ doing.MustBackOff t object }
-        ensures { Tried self.now.script pass.old kept pass.new result }
+        requires stands { StandsAt (run_seen self.now.script pass.old) pass.old.rank here.old }
+        ensures tried { Tried self.now.script pass.old kept.old pass.new kept.new result }
+        ensures stands { StandsAfter (run_seen self.now.script pass.new) pass.old.rank result
+            here.new }
     {
-        let _ = object;
         self.backoff(rt, pass, t)?;
-        let states = Duplicates::empty();
-        Ok((Attempted::Did, Attempt { states, ..kept }))
+        kept.states = Duplicates::empty();
+        here.doing = Doing::BackedOff(t, object);
+        Ok(Attempted::Did)
     }
 
     /// A context that backed off asks for the object that it backed off for.
@@ -106,15 +158,20 @@ impl Device {
         pass: &mut Pass,
         t: Ticket,
         object: ObjId,
-        kept: Attempt,
-    ) -> Result<(Attempted, Attempt), NoMemory>
+        kept: &mut Findings,
+        here: &mut Place,
+    ) -> Result<Attempted, NoMemory>
         requires own { pass.old.lock ≡ self.now.lock }
-        requires ready { IsReady self.now.script pass.old kept }
+        requires ready { IsReady self.now.script pass.old kept.old }
         requires off { doing_at (machine (run_seen self.now.script pass.old)) pass.old.rank
             ≡ doing.BackedOff t object }
-        ensures { Tried self.now.script pass.old kept pass.new result }
+        requires stands { StandsAt (run_seen self.now.script pass.old) pass.old.rank here.old }
+        ensures tried { Tried self.now.script pass.old kept.old pass.new kept.new result }
+        ensures stands { StandsAfter (run_seen self.now.script pass.new) pass.old.rank result
+            here.new }
     {
         let answer = self.relock(rt, pass, t)?;
+        here.doing = doing_after(t, object, answer, here.doing);
         Ok(after_lock(pass.seen_len(), object, answer, kept))
     }
 
@@ -125,31 +182,22 @@ impl Device {
         alloc: Global,
         pass: &mut Pass,
         taking: Taking,
-        kept: Attempt,
-    ) -> Result<(Attempted, Attempt), NoMemory>
+        kept: &mut Findings,
+        here: &mut Place,
+    ) -> Result<Attempted, NoMemory>
         requires own { pass.old.lock ≡ self.now.lock }
-        requires ready { IsReady self.now.script pass.old kept }
+        requires ready { IsReady self.now.script pass.old kept.old }
         requires takes { TakesLocksFor self.now.script pass.old taking.t taking.request.now }
-        ensures { Tried self.now.script pass.old kept pass.new result }
+        requires stands { StandsAt (run_seen self.now.script pass.old) pass.old.rank here.old }
+        ensures tried { Tried self.now.script pass.old kept.old pass.new kept.new result }
+        ensures stands { StandsAfter (run_seen self.now.script pass.new) pass.old.rank result
+            here.new }
     {
-        let Attempt { looks, states } = kept;
-        match looks {
-            Some(looks) => {
-                let work = Work {
-                    taking,
-                    looks,
-                    states,
-                };
-                self.move_with(rt, alloc, pass, work)
-            }
+        match kept.looks.take() {
+            Some(looks) => self.move_with(rt, alloc, pass, Work { taking, looks }, kept, here),
             None => {
                 let looks = self.lookups(rt, alloc, pass, taking.request)?;
-                let work = Work {
-                    taking,
-                    looks,
-                    states,
-                };
-                self.move_with(rt, alloc, pass, work)
+                self.move_with(rt, alloc, pass, Work { taking, looks }, kept, here)
             }
         }
     }
@@ -161,10 +209,16 @@ impl Device {
         alloc: Global,
         pass: &mut Pass,
         work: Work,
-    ) -> Result<(Attempted, Attempt), NoMemory>
+        kept: &mut Findings,
+        here: &mut Place,
+    ) -> Result<Attempted, NoMemory>
         requires own { pass.old.lock ≡ self.now.lock }
-        requires works { Works self.now.script pass.old work }
-        ensures { Tried self.now.script pass.old (kept_in work.entry) pass.new result }
+        requires works { Works self.now.script pass.old work kept.old.states }
+        requires stands { StandsAt (run_seen self.now.script pass.old) pass.old.rank here.old }
+        ensures tried { Tried self.now.script pass.old (kept_in work.entry kept.old.states) pass.new
+            kept.new result }
+        ensures stands { StandsAfter (run_seen self.now.script pass.new) pass.old.rank result
+            here.new }
     {
         let topology = &self.script().topology;
         match next_move(
@@ -172,13 +226,13 @@ impl Device {
             topology,
             work.taking.request,
             &work.looks,
-            &work.states,
+            &kept.states,
         )? {
-            Move::Lock(id) => self.ask_for(rt, pass, id, work),
-            Move::Refuse(why) => self.turn_down(rt, alloc, pass, why, work),
+            Move::Lock(id) => self.ask_for(rt, pass, id, work, kept, here),
+            Move::Refuse(why) => self.turn_down(rt, alloc, pass, why, work, kept),
             Move::Accept(checked, resolved) => {
                 let accepted = Accepted { checked, resolved };
-                self.accept(rt, alloc, pass, &accepted, work)
+                self.accept(rt, alloc, pass, &accepted, work, kept)
             }
         }
     }
@@ -190,15 +244,24 @@ impl Device {
         pass: &mut Pass,
         id: ObjId,
         work: Work,
-    ) -> Result<(Attempted, Attempt), NoMemory>
+        kept: &mut Findings,
+        here: &mut Place,
+    ) -> Result<Attempted, NoMemory>
         requires own { pass.old.lock ≡ self.now.lock }
-        requires works { Works self.now.script pass.old work }
+        requires works { Works self.now.script pass.old work kept.old.states }
         requires asks { AsksFor self.now.script.topology work.taking.request.now work.looks
-            work.states id }
-        ensures { Tried self.now.script pass.old (kept_in work.entry) pass.new result }
+            kept.old.states id }
+        requires stands { StandsAt (run_seen self.now.script pass.old) pass.old.rank here.old }
+        ensures tried { Tried self.now.script pass.old (kept_in work.entry kept.old.states) pass.new
+            kept.new result }
+        ensures stands { StandsAfter (run_seen self.now.script pass.new) pass.old.rank result
+            here.new }
     {
+        have_places(kept.states);
         let answer = self.lock(rt, pass, work.taking.t, id)?;
-        Ok(after_lock(pass.seen_len(), id, answer, work.into_kept()))
+        here.doing = doing_after(work.taking.t, id, answer, here.doing);
+        kept.looks = Some(work.looks);
+        Ok(after_lock(pass.seen_len(), id, answer, kept))
     }
 
     /// Refuses the request.
@@ -209,15 +272,19 @@ impl Device {
         pass: &mut Pass,
         why: Refusal,
         work: Work,
-    ) -> Result<(Attempted, Attempt), NoMemory>
+        kept: &mut Findings,
+    ) -> Result<Attempted, NoMemory>
         requires own { pass.old.lock ≡ self.now.lock }
-        requires works { Works self.now.script pass.old work }
+        requires works { Works self.now.script pass.old work kept.old.states }
         requires refused { RefusedBy self.now.script.topology work.taking.request.now work.looks
-            work.states why }
-        ensures { Tried self.now.script pass.old (kept_in work.entry) pass.new result }
+            kept.old.states why }
+        ensures tried { Tried self.now.script pass.old (kept_in work.entry kept.old.states) pass.new
+            kept.new result }
+        ensures stands { (place : Place) → StandsAt (run_seen self.now.script pass.old) pass.old.rank place
+            → StandsAfter (run_seen self.now.script pass.new) pass.old.rank result place }
     {
         let answer = self.refuse(rt, pass, work.taking.t, &work.looks, why)?;
-        self.conclude(rt, alloc, pass, answer, work)
+        self.conclude(rt, alloc, pass, answer, work, kept)
     }
 
     /// Tells that the request would be accepted, or commits it.
@@ -228,22 +295,25 @@ impl Device {
         pass: &mut Pass,
         accepted: &Accepted,
         work: Work,
-    ) -> Result<(Attempted, Attempt), NoMemory>
+        kept: &mut Findings,
+    ) -> Result<Attempted, NoMemory>
         requires own { pass.old.lock ≡ self.now.lock }
-        requires works { Works self.now.script pass.old work }
+        requires works { Works self.now.script pass.old work kept.old.states }
         requires accepted { AcceptedAs self.now.script.topology work.taking.request.now work.looks
-            work.states accepted.now.checked accepted.now.resolved }
-        ensures { Tried self.now.script pass.old (kept_in work.entry) pass.new result }
+            kept.old.states accepted.now.checked.value accepted.now.resolved }
+        ensures tried { Tried self.now.script pass.old (kept_in work.entry kept.old.states) pass.new
+            kept.new result }
+        ensures stands { (place : Place) → StandsAt (run_seen self.now.script pass.old) pass.old.rank place
+            → StandsAfter (run_seen self.now.script pass.new) pass.old.rank result place }
     {
-        let checked = &accepted.checked;
-        let resolved = &accepted.resolved;
         let t = work.taking.t;
         if is_test(work.taking.request.flags) {
+            let checked = &*accepted.checked;
             let answer = self.test(rt, pass, t, &work.looks, checked)?;
-            return self.conclude(rt, alloc, pass, answer, work);
+            return self.conclude(rt, alloc, pass, answer, work, kept);
         }
-        let answer = self.swap(rt, alloc, pass, t, &work.looks, checked, resolved)?;
-        self.conclude(rt, alloc, pass, answer, work)
+        let answer = self.swap(rt, alloc, pass, t, &work.looks, accepted)?;
+        self.conclude(rt, alloc, pass, answer, work, kept)
     }
 
     /// What comes of an answer to a call that decides the request. Look-ups that grew old are made anew.
@@ -254,23 +324,27 @@ impl Device {
         pass: &mut Pass,
         answer: Decided,
         work: Work,
-    ) -> Result<(Attempted, Attempt), NoMemory>
+        kept: &mut Findings,
+    ) -> Result<Attempted, NoMemory>
         requires own { pass.old.lock ≡ self.now.lock }
         ensures did { IfOk result (λ did. Concludes self.now.script work.entry.taking.request.now
-            (kept_in work.entry) pass.old answer pass.new did.0 did.1) }
+            (kept_in work.entry kept.old.states) pass.old answer pass.new did kept.new) }
         ensures vain { OnErr result (LooksInVain self.now.script answer pass.old pass.new) }
     {
         match answer {
             Decided::Done { reply } | Decided::Refused { reply } => {
-                Ok((Attempted::Answered(reply), Attempt::new()))
+                *kept = Findings::new();
+                Ok(Attempted::Answered(reply))
             }
             Decided::NotYet { .. } => {
-                let length = pass.seen_len();
-                Ok((Attempted::NotYet { length }, work.into_kept()))
+                kept.looks = Some(work.looks);
+                Ok(Attempted::NotYet {
+                    length: pass.seen_len(),
+                })
             }
             Decided::Again { .. } => {
-                let looks = self.lookups(rt, alloc, pass, work.taking.request)?;
-                Ok((Attempted::Did, Work { looks, ..work }.into_kept()))
+                kept.looks = Some(self.lookups(rt, alloc, pass, work.taking.request)?);
+                Ok(Attempted::Did)
             }
         }
     }
@@ -283,57 +357,55 @@ pub(crate) struct Taking<'a> {
     request: &'a Request,
 }
 
-/// An accepted request: what its check gave, and what its labels name.
-#[derive(Drop)]
-pub(crate) struct Accepted {
-    checked: Checked,
-    resolved: Resolved,
-}
-
-/// What a client works with that takes locks: what its request's labels named, and the states that its locks gave.
+/// What a client works with that takes locks, beside the states that these gave: what its request's labels named.
 #[derive(Drop)]
 pub(crate) struct Work<'a> {
     taking: Taking<'a>,
     looks: Lookups,
-    states: Duplicates,
 }
 
-impl<'a> Work<'a> {
-    ghost use Rattle.std.specs.Prelude.{◌≡◌};
-    ghost use Rattle.kms_device.specs.Trying.{kept_in};
-
-    /// What is kept of it.
-    fn into_kept(self) -> Attempt
-        ensures { result ≡ kept_in self.entry }
-    {
-        Attempt {
-            looks: Some(self.looks),
-            states: self.states,
-        }
-    }
-}
-
-/// What comes of an answer to a lock of an object that was asked for, in a history of some length.
-fn after_lock(length: u64, id: ObjId, answer: Locked, kept: Attempt) -> (Attempted, Attempt)
-    ensures did { result.0 ≡ attempted_of length answer }
-    ensures keeps { result.1 ≡ kept_of id answer kept }
+/// What comes of an answer to a lock of an object that was asked for, in a history of some length. A state that it gave is
+/// kept.
+fn after_lock(length: u64, id: ObjId, answer: Locked, kept: &mut Findings) -> Attempted
+    ensures did { result ≡ attempted_of length answer }
+    ensures keeps { kept.new ≡ kept_of id answer kept.old }
 {
     match answer {
         Locked::Got { state } | Locked::Own { state } => {
-            (Attempted::Did, with_state(kept, id, state))
+            take_in(&mut kept.states, id, state);
+            Attempted::Did
         }
-        Locked::Older { .. } => (Attempted::Did, kept),
-        Locked::Younger { .. } | Locked::Held { .. } => (Attempted::NotYet { length }, kept),
+        Locked::Older { .. } => Attempted::Did,
+        Locked::Younger { .. } | Locked::Held { .. } => Attempted::NotYet { length },
     }
 }
 
-/// What is kept with the state of an object, where it does not have it yet.
-fn with_state(mut kept: Attempt, id: ObjId, state: ObjState) -> Attempt
-    ensures { result ≡ with_state kept id state }
+/// What a client does after an answer to a lock of an object that its context asked for.
+fn doing_after(t: Ticket, id: ObjId, answer: Locked, doing: Doing) -> Doing
+    ensures { result ≡ doing_of t id answer doing }
 {
-    if kept.states.may_duplicate(id, &state) {
-        kept.states.duplicate(id, state);
-        return kept;
+    match answer {
+        Locked::Got { .. } => Doing::Taking(t),
+        Locked::Older { .. } => Doing::MustBackOff(t, id),
+        Locked::Own { .. } | Locked::Younger { .. } | Locked::Held { .. } => doing,
     }
-    kept
+}
+
+/// Where a client stands after an attempt that left it at a place. Where it goes on behind a reply is not told.
+fn place_behind(did: Attempted, here: Place) -> Option<Place>
+    ensures { result ≡ place_behind did here }
+{
+    match did {
+        Attempted::Did | Attempted::NotYet { .. } => Some(here),
+        Attempted::Answered(_reply) => None,
+    }
+}
+
+/// Takes the state of an object in, where it is not among the states yet.
+fn take_in(states: &mut Duplicates, id: ObjId, state: ObjState)
+    ensures { states.new ≡ taken_in states.old id.0 state }
+{
+    if states.may_duplicate(id, &state) {
+        states.duplicate(id, state);
+    }
 }

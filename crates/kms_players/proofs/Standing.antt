@@ -1,7 +1,8 @@
 -- Where a client stands, and which step comes next there.
 use Rattle.std.proofs.Common.{◌≡◌, ◌⊎◌, ℕ, [], ◌∷◌, true, Option, Some, None, Result, Ok, Err, inl, inr, refl, sym, ap, ◌∙◌, subst}
-use Rattle.std.specs.Prelude.{IfOk, OnErr, is_none}
+use Rattle.std.specs.Prelude.{IfOk, IfSome, OnErr, is_none, is_some}
 use Rattle.std.proofs.lemmas.Bool.{and_from}
+use Rattle.kms_model.specs.declared.replies.Reply.{Reply}
 use Rattle.kms_model.specs.declared.runs.Doing.{Doing}
 use Rattle.kms_model.specs.declared.runs.Doing.TheVariants as doing
 use Rattle.kms_model.specs.declared.runs.Place.{Place}
@@ -23,7 +24,8 @@ use Rattle.kms_pool.specs.declared.player.Turn.TheVariants.{Did, Ended, NotYet}
 use Rattle.kms_core.specs.Calls.{idle_command_at, only_if}
 use Rattle.kms_core.specs.Run.{Run, machine}
 use Rattle.kms_device.specs.declared.attempt.Attempt.{Attempt}
-use Rattle.kms_device.specs.Attempts.{MayAttempt, Serves, StaysAt, Went, new_attempt}
+use Rattle.kms_device.specs.declared.attempt.Attempted.TheVariants as attempted
+use Rattle.kms_device.specs.Attempts.{IsAttempt, MayAttempt, Serves, StandsAt, StaysAt, Went, new_attempt}
 use Rattle.kms_device.specs.Turns.{DevicePass, IsOpen, DeviceTurn, run_seen}
 use Rattle.kms_device.proofs.Serving.{serves_new}
 use Rattle.kms_players.specs.Players.{name_of_pass}
@@ -86,11 +88,15 @@ module _ (script : Script) (client : ℕ) (place : Place) (before told : DeviceP
     pub may_attempt : (r : Request) → command_of script (record { client = client; command = place.command }) ≡ Some (command.Atomic r) → MayAttempt (run_seen script told) client
     may_attempt r e = record { request = r; at = ap request_in (commands ∙ e); awake = awake_told }
 
-    pub attempting_anew : (r : Request) (kept : Attempt) → command_of script (record { client = client; command = place.command }) ≡ Some (command.Atomic r) → kept ≡ new_attempt
-        → IsAttempting (run_seen script told) client kept place.command
-    attempting_anew r kept e anew =
-        subst (λ kept. IsAttempting (run_seen script told) client kept place.command) (sym anew)
-        (record { may = may_attempt r e; at = at_command; serves = serves_new (run_seen script told) client })
+    pub attempting_anew : (r : Request) (work : Attempt) → command_of script (record { client = client; command = place.command }) ≡ Some (command.Atomic r)
+        → work ≡ record new_attempt { place = Some place } → IsAttempting (run_seen script told) client work place.command
+    attempting_anew r work e anew =
+        subst (λ w. IsAttempting (run_seen script told) client w place.command) (sym anew) (record {
+          may = may_attempt r e;
+          at = at_command;
+          serves = serves_new (run_seen script told) client;
+          stands = record { is_open = open_told; at = sym stands };
+        })
 
     pub idle_told : (c : Command) → ((r : Request) → c ≡ command.Atomic r → ⊥) → command_of script (record { client = client; command = place.command }) ≡ Some c
         → (idle_command_at (run_seen script told) client ≡ Some c) × (request_in (Some c) ≡ None)
@@ -108,8 +114,30 @@ module _ (script : Script) (client : ℕ) (place : Place) (before told : DeviceP
     }
 
 -- a client that makes attempts at a request makes them still after one that gave no reply
-pub attempting_on : (before after : Run) (client number : ℕ) (old new : Attempt) → IsAttempting before client old number → StaysAt before after client → Serves after client new → IsAttempting after client new number
-attempting_on before after client number old new is stays serves = record { may = stays.may; at = stays.command ∙ is.at; serves = serves }
+pub attempting_on : (before after : Run) (client number : ℕ) (old new : Attempt) → IsAttempting before client old number → StaysAt before after client
+    → Serves after client new.kept → IfSome new.place (StandsAt after client) → IsAttempting after client new number
+attempting_on before after client number old new is stays serves stands = record {
+  may = stays.may;
+  at = stays.command ∙ is.at;
+  serves = serves;
+  stands = stands;
+}
+
+-- an attempt that was begun with nothing but a place is one that was begun with nothing
+pub begun_anew : {E : Type 0} (script : Script) (client : ℕ) (before after : DevicePass) (old begun new : Attempt) (place : Place)
+    (r : Result (pool.Turn × Option ℕ) E) → old ≡ new_attempt → begun ≡ record new_attempt { place = Some place }
+    → IfOk r (λ x. AttemptTurn script client before begun after new x.0) → IfOk r (λ x. AttemptTurn script client before old after new x.0)
+begun_anew script client before after old begun new place (Ok x) is_new is h =
+    turn_with x.0 (ap (λ (w : Attempt). w.kept) is ∙ sym (ap (λ (w : Attempt). w.kept) is_new)) h
+  where
+    turn_with : (answer : pool.Turn) → begun.kept ≡ old.kept → AttemptTurn script client before begun after new answer
+        → AttemptTurn script client before old after new answer
+    turn_with Did same h = subst (λ k. (IsAttempt script client before k after new.kept attempted.Did × (is_some new.place ≡ true))
+        ⊎ ((reply : Reply) × (IsAttempt script client before k after new.kept (attempted.Answered reply) × (new ≡ new_attempt)))) same h
+    turn_with (NotYet n) same h =
+        subst (λ k. IsAttempt script client before k after new.kept (attempted.NotYet n) × (is_some new.place ≡ true)) same h
+    turn_with Ended same h = absurd h
+begun_anew script client before after old begun new place (Err e) is_new is h = tt
 
 -- a client's turn, after it was told where it stands, or knew
 
@@ -131,11 +159,13 @@ plain_name script client before after (NotYet n) t = turn_name script _ [] befor
 plain_name script client before after Ended t = absurd t
 
 attempt_name : (script : Script) (client : ℕ) (before : DevicePass) (old : Attempt) (after : DevicePass) (new : Attempt) (answer : pool.Turn) → AttemptTurn script client before old after new answer → name_of_pass after ≡ name_of_pass before
-attempt_name script client before old after new Did (inl (inl s)) = went_name _ before after s.stepped.went
-attempt_name script client before old after new Did (inl (inr (inl s))) = went_name _ before after s.went
-attempt_name script client before old after new Did (inl (inr (inr s))) = went_name _ before after s.went
-attempt_name script client before old after new Did (inr s) = went_name _ before after s.1.stepped.went
-attempt_name script client before old after new (NotYet n) s = went_name _ before after s.went
+attempt_name script client before old after new Did (inl s) = did s.0 where
+  did : IsAttempt script client before old.kept after new.kept attempted.Did → name_of_pass after ≡ name_of_pass before
+  did (inl s) = went_name _ before after s.stepped.went
+  did (inr (inl s)) = went_name _ before after s.went
+  did (inr (inr s)) = went_name _ before after s.went
+attempt_name script client before old after new Did (inr s) = went_name _ before after s.1.0.stepped.went
+attempt_name script client before old after new (NotYet n) s = went_name _ before after s.0.went
 attempt_name script client before old after new Ended s = absurd s
 
 plays_name : (script : Script) (client : ℕ) (before : DevicePass) (old : Attempt) (after : DevicePass) (new : Attempt) (answer : pool.Turn) → Plays script client before old after new answer → name_of_pass after ≡ name_of_pass before

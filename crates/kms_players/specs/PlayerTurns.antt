@@ -1,6 +1,6 @@
 -- What a turn of a player came to. From: "Atomic Mode Setting", `drm_atomic_helper.c`, commit_tail (workers);
 -- "Vertical Blanking". That players take turns, one step at a time, is this device's own.
-use Rattle.std.specs.Prelude.{◌≡◌, ◌⊎◌, ℕ, Bool, true, false, [], ◌∷◌, length, find, Option, Some, None, if◌then◌else◌}
+use Rattle.std.specs.Prelude.{◌≡◌, ◌⊎◌, ℕ, Bool, true, false, [], ◌∷◌, length, find, is_some, Option, Some, None, if◌then◌else◌}
 use Rattle.std.specs.Option.{option_map}
 use Rattle.kms_model.specs.declared.objects.Kind.TheVariants.{Crtc}
 use Rattle.kms_model.specs.declared.replies.Reply.{Reply}
@@ -19,7 +19,7 @@ use Rattle.kms_core.specs.Run.{Run, machine}
 use Rattle.kms_core.specs.Work.{first_claim}
 use Rattle.kms_device.specs.declared.attempt.Attempt.{Attempt}
 use Rattle.kms_device.specs.declared.attempt.Attempted.TheVariants as attempted
-use Rattle.kms_device.specs.Attempts.{IsAttempt, MayAttempt, Went}
+use Rattle.kms_device.specs.Attempts.{IsAttempt, MayAttempt, Went, new_attempt}
 use Rattle.kms_device.specs.Steps.{blanks_at, is_legal, tail_of}
 use Rattle.kms_device.specs.Turns.{DevicePass, DeviceTurn, run_seen}
 
@@ -57,12 +57,13 @@ PlainTurn script client before after Did = (next : Step) × MakesStep script cli
 PlainTurn script client before after (NotYet n) = (next : Step) × LacksStep script client n before after next
 PlainTurn script client before after Ended = ⊥
 
--- what became of an attempt, by the answer
+-- What became of an attempt, by the answer. Where it goes on it keeps where it left the client; behind a reply all that is kept is new.
 abbrev pub AttemptTurn : Script → ℕ → DevicePass → Attempt → DevicePass → Attempt → pool.Turn → Type 0
 AttemptTurn script client before old after new Did =
-    IsAttempt script client before old after new attempted.Did
-    ⊎ ((reply : Reply) × IsAttempt script client before old after new (attempted.Answered reply))
-AttemptTurn script client before old after new (NotYet n) = IsAttempt script client before old after new (attempted.NotYet n)
+    (IsAttempt script client before old.kept after new.kept attempted.Did × (is_some new.place ≡ true))
+    ⊎ ((reply : Reply) × (IsAttempt script client before old.kept after new.kept (attempted.Answered reply) × (new ≡ new_attempt)))
+AttemptTurn script client before old after new (NotYet n) =
+    IsAttempt script client before old.kept after new.kept (attempted.NotYet n) × (is_some new.place ≡ true)
 AttemptTurn script client before old after new Ended = ⊥
 
 -- a client that stands at a request, and does not wait for a commit of its own, made an attempt at it

@@ -83,6 +83,7 @@ impl<'a, G: Gate> Site<'a, G> {
             return Ok((Turn::Ended, None));
         };
         if let Command::Atomic(_request) = command {
+            *kept = Attempt::at(place);
             return self.attempt(rt, alloc, pass, place.command, kept);
         }
         let turn = self.execute(rt, alloc, pass, place.command, command)?;

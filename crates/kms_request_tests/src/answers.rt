@@ -64,7 +64,7 @@ fn if_early(refusal: Option<Refusal>) -> Option<Refusal> {
 
 /// The refusal that a request meets where it is resolved.
 #[tactic(auto, using(crate::proofs::Standing::stands_limits))]
-fn unresolved(
+fn resolving_refusal(
     alloc: Global,
     topology: &Topology,
     request: &Request,
@@ -92,7 +92,7 @@ fn meets_early(
 {
     let want = if_early(refusal);
     let told = early(topology, request, looks) == want;
-    Ok(told && unresolved(alloc, topology, request, looks)? == want)
+    Ok(told && resolving_refusal(alloc, topology, request, looks)? == want)
 }
 
 /// Whether a client that holds all objects meets this refusal, or its request is accepted.

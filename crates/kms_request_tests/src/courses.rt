@@ -20,7 +20,7 @@ ghost use Rattle.kms_model.specs.Script.WellFormed.{IsFitCommand};
 ghost use Rattle.kms_request_tests.specs.Standing.{Stands};
 
 use crate::answers::{all_agree, is_told};
-use crate::parts::observed;
+use crate::parts::observe;
 use kms_model::{Command, NoMemory, Part, Pattern, Reply, Script, Seq, Topology};
 use kms_script::parse;
 use kms_serial::Serial;
@@ -130,7 +130,7 @@ fn is_so(
     requires { Stands topology.now device.old }
     ensures { OnOk result (Stands topology.now device.new) }
 {
-    match observed(alloc, topology, device, command, want)? {
+    match observe(alloc, topology, device, command, want)? {
         Some(is) => Ok(is),
         None => is_answered(alloc, topology, device, client, command, want),
     }

@@ -52,7 +52,7 @@ fn states_of_kinds(states: &Duplicates, kinds: &str) -> Duplicates
 
 /// What a request asks for on a device.
 #[tactic(auto, using(crate::proofs::Standing::stands_device, crate::proofs::Standing::stands_limits, crate::proofs::Standing::asked_for))]
-fn resolved(
+fn resolve_request(
     alloc: Global,
     topology: &Topology,
     device: &Serial,
@@ -70,7 +70,7 @@ fn resolved(
 
 /// What a check of a request answers over the states of some kinds of objects.
 #[tactic(auto, using(crate::proofs::Standing::stands_device))]
-fn checked(
+fn check_request(
     alloc: Global,
     topology: &Topology,
     device: &Serial,
@@ -80,8 +80,9 @@ fn checked(
     requires { Stands topology.now device.now }
 {
     let states = states_of(topology, device);
-    let resolved = resolved(alloc, topology, device, request)?;
-    Ok(check(topology, states_of_kinds(&states, kinds), &resolved))
+    let resolved = resolve_request(alloc, topology, device, request)?;
+    let held = states_of_kinds(&states, kinds);
+    Ok(check(topology, &held, &resolved))
 }
 
 /// A set of objects as a line has it.
@@ -111,7 +112,7 @@ fn spans(
         return Ok(false);
     }
     let (named, touched) = device.spans(request);
-    let is_checked = match checked(alloc, topology, device, request, "all")? {
+    let is_checked = match check_request(alloc, topology, device, request, "all")? {
         Ok(checked) => is_span(alloc, checked.named, &checked.touched, want)?,
         Err(_) => false,
     };
@@ -128,7 +129,7 @@ fn names(
 ) -> Result<bool, Fail>
     requires { Stands topology.now device.now }
 {
-    let resolved = resolved(alloc, topology, device, request)?;
+    let resolved = resolve_request(alloc, topology, device, request)?;
     let want: u32 = want.parse()?;
     Ok(named(&resolved, &device.states()) == want)
 }
@@ -175,7 +176,7 @@ fn sets(
 ) -> Result<bool, Fail>
     requires { Stands topology.now device.now }
 {
-    let resolved = resolved(alloc, topology, device, request)?;
+    let resolved = resolve_request(alloc, topology, device, request)?;
     let text = sets_text(alloc, &resolved)?;
     Ok(text.as_str() == want)
 }
@@ -191,7 +192,7 @@ fn fences(
     requires { Stands topology.now device.now }
 {
     let (waits, makes) = want.split_once(',').ok_or("two lists")?;
-    let resolved = resolved(alloc, topology, device, request)?;
+    let resolved = resolve_request(alloc, topology, device, request)?;
     let ins = numbered_text(alloc, resolved.in_fences.as_slice())?;
     let outs = numbered_text(alloc, resolved.out_fences.as_slice())?;
     Ok(ins.as_str() == waits && outs.as_str() == makes)
@@ -208,7 +209,7 @@ fn needs(
     requires { Stands topology.now device.now }
 {
     let (kinds, objects) = want.split_once(' ').ok_or("kinds and objects")?;
-    match checked(alloc, topology, device, request, kinds)? {
+    match check_request(alloc, topology, device, request, kinds)? {
         Err(Refused::MoreLocks { locks }) => is_mask(alloc, &locks, objects),
         _ => Ok(objects == "nothing"),
     }
@@ -246,7 +247,7 @@ fn goes_on(
 }
 
 /// Whether what a line says of a request is so; none where it only says how the request is answered.
-fn observed_of(
+fn observe_request(
     alloc: Global,
     topology: &Topology,
     device: &Serial,
@@ -280,7 +281,7 @@ fn observed_of(
 }
 
 /// The same of every command.
-pub(crate) fn observed(
+pub(crate) fn observe(
     alloc: Global,
     topology: &Topology,
     device: &Serial,
@@ -290,7 +291,7 @@ pub(crate) fn observed(
     requires { Stands topology.now device.now }
 {
     match command {
-        Command::Atomic(request) => observed_of(alloc, topology, device, request, want),
+        Command::Atomic(request) => observe_request(alloc, topology, device, request, want),
         _ => Ok(None),
     }
 }

@@ -74,7 +74,7 @@ fn device() -> Duplicates {
 }
 
 /// What a CRTC shows, which can be told.
-fn shown(rt: &impl Abort, states: &Duplicates, crtc: u32) -> Option<Shown> {
+fn show(rt: &impl Abort, states: &Duplicates, crtc: u32) -> Option<Shown> {
     assert!(rt; may_picture(states, crtc));
     match picture(states, crtc) {
         Picture::On(shown) => Some(shown),
@@ -108,7 +108,7 @@ fn assert_layers(rt: &impl Abort, layers: &[Layer], wants: &[(u32, Option<Rect>)
 /// Layers stand by zpos and then by plane, each with its destination as far as it is in the mode.
 #[test]
 fn a_crtc_shows_its_planes(rt: HostRuntime) {
-    let Some(shown) = shown(&rt, &device(), 1) else {
+    let Some(shown) = show(&rt, &device(), 1) else {
         assert!(rt; false, "it is on");
         return;
     };
@@ -145,7 +145,7 @@ fn a_picture_is_that_of_its_crtc(rt: HostRuntime) {
         mode: Some(sized_mode(10, 8)),
         ..CrtcState::OFF
     };
-    let black = shown(&rt, &with_crtc(3, empty), 3);
+    let black = show(&rt, &with_crtc(3, empty), 3);
     assert!(rt;
         black.is_some_and(|s| s.mode == sized_mode(10, 8)
             && s.conn == 0
@@ -156,7 +156,7 @@ fn a_picture_is_that_of_its_crtc(rt: HostRuntime) {
         gamma: Some(FLAT_GAMMA),
         ..empty
     };
-    let seen = shown(&rt, &with_crtc(3, with_table), 3);
+    let seen = show(&rt, &with_crtc(3, with_table), 3);
     assert!(rt; seen.is_some_and(|s| s.gamma == Some(FLAT_GAMMA)));
     for off in [
         CrtcState {
@@ -168,7 +168,7 @@ fn a_picture_is_that_of_its_crtc(rt: HostRuntime) {
             ..empty
         },
     ] {
-        assert!(rt; shown(&rt, &with_crtc(0, off), 0).is_none());
+        assert!(rt; show(&rt, &with_crtc(0, off), 0).is_none());
     }
 }
 
@@ -179,7 +179,7 @@ fn a_table_that_goes_is_not_shown(rt: HostRuntime) {
     if let Some(both) = &mut states.crtcs[1] {
         both.old.gamma = Some(FLAT_GAMMA);
     }
-    assert!(rt; shown(&rt, &states, 1).is_some_and(|s| s.gamma.is_none()));
+    assert!(rt; show(&rt, &states, 1).is_some_and(|s| s.gamma.is_none()));
 }
 
 /// Asserts whether the pictures of a CRTC that is there, of one that is not duplicated and of one beyond all can be told.

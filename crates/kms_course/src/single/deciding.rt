@@ -62,11 +62,12 @@ fn decide_with(
     match next_move(alloc, topology, &context.request, used, &context.states)? {
         Move::Refuse(why) => Ok(Some(core.refuse(context.ticket, used, why)?)),
         Move::Lock(_id) => Ok(None),
-        Move::Accept(checked, resolved) => {
-            if !has_states(&checked) {
+        Move::Accept(boxed, resolved) => {
+            let checked = &*boxed;
+            if !has_states(checked) {
                 return Ok(None);
             }
-            let decided = accept(core, alloc, context, used, &checked, &resolved)?;
+            let decided = accept(core, alloc, context, used, checked, &resolved)?;
             Ok(Some(decided))
         }
     }

@@ -1,4 +1,4 @@
-use Rattle.std.proofs.Common.{◌≡◌, ◌∙◌, ℕ, Option, None, sym, ap, arith, subst}
+use Rattle.std.proofs.Common.{◌≡◌, ◌∙◌, ℕ, Option, None, sym, ap, subst}
 use Rattle.std.specs.Prelude.{All}
 use Rattle.kms_model.specs.declared.objects.Kind.TheVariants.{Plane}
 use Rattle.kms_model.specs.declared.objects.Topology.{Topology}
@@ -26,8 +26,8 @@ use Rattle.kms_check.proofs.checking.check.Goals as goal
 
 -- What is found of each group, whatever comes of it
 
-set_found : (c : After-lacking) (w : World) (r : Request) → IsOfRequest c.args.topology.now w r c.args.resolved.now c.args.states
-    → lacking c.args.states (set_group c.args.topology.now r) ≡ c.lacking.result
+set_found : (c : After-lacking) (w : World) (r : Request) → IsOfRequest c.args.topology.now w r c.args.resolved.now c.args.states.now
+    → lacking c.args.states.now (set_group c.args.topology.now r) ≡ c.lacking.result
 set_found c w r is = set-lacking _ w r _ _ _ _ _ is c.as_slice-sets.ensures.value c.objects_set-set.ensures c.lacking.ensures
 
 -- What the first group tells, and the second, where nothing of them is lacking
@@ -37,12 +37,16 @@ record NamedKnown (t : Topology) (w : World) (r : Request) (resolved : Resolved)
   named_is : named ≡ named_by t w r
   named_found : lacking d (named_group t w r) ≡ found
 
-named_known : (c : After-lacking-2) (w : World) (r : Request) → IsOfRequest c.args.topology.now w r c.args.resolved.now c.args.states
-    → NamedKnown c.args.topology.now w r c.args.resolved.now c.args.states c.named-named.result c.lacking-2.result
+named_known : (c : After-lacking-2) (w : World) (r : Request) → IsOfRequest c.args.topology.now w r c.args.resolved.now c.args.states.now
+    → NamedKnown c.args.topology.now w r c.args.resolved.now c.args.states.now c.named-named.result c.lacking-2.result
 named_known c w r is =
     let t = c.args.topology.now in
-    let d = c.args.states in
-    let room : HasRoom d = record { crtcs = omega arith; planes = omega arith; conns = omega arith } in
+    let d = c.args.states.now in
+    let room : HasRoom d = record {
+      crtcs = c.have_places.ensures.crtcs;
+      planes = c.have_places.ensures.planes;
+      conns = c.have_places.ensures.conns;
+    } in
     let lacks : lacking d (set_group t r) ≡ c.lacking.result = set-lacking t w r c.args.resolved.now d _ _ _ is c.as_slice-sets.ensures.value c.objects_set-set.ensures c.lacking.ensures in
     let has : HasSets t w r c.args.resolved.now d = record { is = is; room = room; none = lacks ∙ c.in_default.is } in
     let named_is : c.named-named.result ≡ named_by t w r = named-known t w r c.args.resolved.now d c.named-named.result has c.named-named.ensures in
@@ -52,12 +56,12 @@ record AllKnown (t : Topology) (w : World) (r : Request) (resolved : Resolved) (
   applied_to : HasApplied t w r resolved d d' named
   affected_found : lacking d (affected_group t w r) ≡ found
 
-all_known : (c : After-lacking-3) (w : World) (r : Request) → IsOfRequest c.args.topology.now w r c.args.resolved.now c.args.states
-    → NamedKnown c.args.topology.now w r c.args.resolved.now c.args.states c.named-named.result c.lacking-2.result
-    → AllKnown c.args.topology.now w r c.args.resolved.now c.args.states c.apply.new.states c.named-named.result c.lacking-3.result
+all_known : (c : After-lacking-3) (w : World) (r : Request) → IsOfRequest c.args.topology.now w r c.args.resolved.now c.args.states.now
+    → NamedKnown c.args.topology.now w r c.args.resolved.now c.args.states.now c.named-named.result c.lacking-2.result
+    → AllKnown c.args.topology.now w r c.args.resolved.now c.args.states.now c.apply.new.states c.named-named.result c.lacking-3.result
 all_known c w r is known =
     let t = c.args.topology.now in
-    let d = c.args.states in
+    let d = c.args.states.now in
     let d' = c.apply.new.states in
     let set_all : SetsAll d c.args.resolved.now.sets d' = subst (λ ss. SetsAll d ss d') c.as_slice-sets.ensures.value c.apply.ensures.new in
     let applied_to : HasApplied t w r c.args.resolved.now d d' c.named-named.result = record {
@@ -90,9 +94,17 @@ pub apply-requires : goal.apply-requires
 apply-requires c =
     let t = c.args.topology.now in
     let asked : IsAskedFor t c.args.resolved.now = c.requires.asked in
-    let room : HasRoom c.args.states = record { crtcs = omega arith; planes = omega arith; conns = omega arith } in
-    let set_none : lacking c.args.states (set_group t asked.request) ≡ None = asked-lacking t c.args.resolved.now c.args.states c.as_slice-sets.result.now c.objects_set-set.result None c.requires.device asked c.as_slice-sets.ensures.value c.objects_set-set.ensures (sym c.in_default.is ∙ c.lacking.ensures) in
-    subst (All (IsApplicable c.args.states)) (sym c.as_slice-sets.ensures.value) (ready t asked.names asked.request c.args.resolved.now c.args.states c.requires.device asked.asks room (covered c.args.states (set_group t asked.request) set_none))
+    let room : HasRoom c.args.states.now = record {
+      crtcs = c.have_places.ensures.crtcs;
+      planes = c.have_places.ensures.planes;
+      conns = c.have_places.ensures.conns;
+    } in
+    let set_none : lacking c.args.states.now (set_group t asked.request) ≡ None =
+    asked-lacking t c.args.resolved.now c.args.states.now c.as_slice-sets.result.now c.objects_set-set.result None
+    c.requires.device asked c.as_slice-sets.ensures.value c.objects_set-set.ensures (sym c.in_default.is ∙ c.lacking.ensures) in
+    subst (All (IsApplicable c.args.states.now)) (sym c.as_slice-sets.ensures.value)
+    (ready t asked.names asked.request c.args.resolved.now c.args.states.now c.requires.device asked.asks room
+    (covered c.args.states.now (set_group t asked.request) set_none))
 
 pub returns-in-Some-lacking-2-clause-locks : goal.returns-in-Some-lacking-2-clause-locks
 returns-in-Some-lacking-2-clause-locks c = λ w r is.
@@ -105,9 +117,10 @@ returns-in-Some-lacking-2-clause-refusal c = λ w r is none. asked-first _ _ _ _
 
 pub late_refusal-requires : goal.late_refusal-requires
 late_refusal-requires c =
-    let held : AreOfSoundWorld c.args.topology.now c.args.states = c.requires.held in
+    let held : AreOfSoundWorld c.args.topology.now c.args.states.now = c.requires.held in
     looked_at-in_range c.args.topology.now c.apply.new.states c.union-touched.result.planes
-    (c.apply.ensures.in_range (count_of c.args.topology.now Plane) (fresh-in_range c.args.topology.now held.world c.args.states held.sound held.old c.requires.fresh))
+    (c.apply.ensures.in_range (count_of c.args.topology.now Plane)
+    (fresh-in_range c.args.topology.now held.world c.args.states.now held.sound held.old c.requires.fresh))
 
 -- What is known once nothing is lacking
 
@@ -116,13 +129,16 @@ record Known (t : Topology) (w : World) (r : Request) (resolved : Resolved) (d d
   none : lacking d (affected_group t w r) ≡ None
   touched_is : touched ≡ touched_by t w r
 
-known : (c : After-union-touched) (w : World) (r : Request) → IsOfRequest c.args.topology.now w r c.args.resolved.now c.args.states
-    → AllKnown c.args.topology.now w r c.args.resolved.now c.args.states c.apply.new.states c.named-named.result c.lacking-3.result
-    → Known c.args.topology.now w r c.args.resolved.now c.args.states c.apply.new.states c.named-named.result c.union-touched.result
+known : (c : After-union-touched) (w : World) (r : Request) → IsOfRequest c.args.topology.now w r c.args.resolved.now c.args.states.now
+    → AllKnown c.args.topology.now w r c.args.resolved.now c.args.states.now c.apply.new.states c.named-named.result c.lacking-3.result
+    → Known c.args.topology.now w r c.args.resolved.now c.args.states.now c.apply.new.states c.named-named.result c.union-touched.result
 known c w r is all =
     let t = c.args.topology.now in
-    let set_is : c.objects_set-set.result ≡ set_group t r = c.objects_set-set.ensures ∙ ap objects_set c.as_slice-sets.ensures.value ∙ objects_set-is t (look_up w) r c.args.resolved.now is.device is.asks in
-    let affected_is : c.affected-affected.result ≡ affected_group t w r = affected-known t w r c.args.resolved.now c.args.states c.apply.new.states c.named-named.result _ all.applied_to c.affected-affected.ensures in
+    let set_is : c.objects_set-set.result ≡ set_group t r =
+    c.objects_set-set.ensures ∙ ap objects_set c.as_slice-sets.ensures.value
+    ∙ objects_set-is t (look_up w) r c.args.resolved.now is.device is.asks in
+    let affected_is : c.affected-affected.result ≡ affected_group t w r =
+    affected-known t w r c.args.resolved.now c.args.states.now c.apply.new.states c.named-named.result _ all.applied_to c.affected-affected.ensures in
     record {
       applied_to = all.applied_to;
       none = all.affected_found ∙ c.in_default-lacking-2.is;

@@ -1,7 +1,8 @@
-use Rattle.std.proofs.Common.{rules, refl, sym, ◌∙◌, inl, inr}
+use Rattle.std.proofs.Common.{rules, refl, sym, subst, ◌∙◌, inl, inr}
 use Rattle.std.proofs.lemmas.Bool.{false≢true}
 use Rattle.kms_model.specs.declared.replies.Reply.TheVariants as reply
 use Rattle.kms_model.specs.declared.replies.Step.TheVariants as step
+use Rattle.kms_track.specs.InStep.{HasStates}
 use Rattle.kms_check.specs.Moves.{AcceptedAs, RefusedBy}
 use Rattle.kms_core.specs.declared.stores.looking.Decided.TheVariants as decided
 use Rattle.kms_core.proofs.Applied.{IsHistoryOf}
@@ -37,18 +38,38 @@ returns-in_ok-refuse-in-Refuse-clause-answer c =
 
 pub returns-then-not-has_states-clause-answer : goal.returns-then-not-has_states-clause-answer
 returns-then-not-has_states-clause-answer c =
-    let accepted : AcceptedAs c.args.core.now.script.topology c.args.context.now.request c.args.used.now c.args.context.now.states c.in-Accept.checked c.in-Accept.resolved = search rules in
-    (inr (inr (inr (no_world c.args.core.now c.args.context.now c.args.used.now c.in-Accept.checked c.in-Accept.resolved accepted (λ has. false≢true (sym c.if-not-has_states.true ∙ c.has_states.ensures.1 has))))), refl)
+    let accepted : AcceptedAs c.args.core.now.script.topology c.args.context.now.request c.args.used.now
+    c.args.context.now.states c.in-Accept.boxed.value c.in-Accept.resolved = search rules in (
+      inr (inr (inr (no_world c.args.core.now c.args.context.now c.args.used.now c.in-Accept.boxed.value
+          c.in-Accept.resolved accepted
+          (λ has. false≢true (sym c.if-not-has_states.true
+          ∙ c.has_states.ensures.1 (subst HasStates (sym c.deref-checked.ensures) has)))))),
+      refl,
+    )
+
+pub accept-requires-clause-accepted : goal.accept-requires-clause-accepted
+accept-requires-clause-accepted c =
+    let accepted : AcceptedAs c.args.core.now.script.topology c.args.context.now.request c.args.used.now
+    c.args.context.now.states c.in-Accept.boxed.value c.in-Accept.resolved = search rules in
+    subst (λ checked. AcceptedAs c.args.core.now.script.topology c.args.context.now.request c.args.used.now
+    c.args.context.now.states checked c.in-Accept.resolved) (sym c.deref-checked.ensures) accepted
 
 pub returns-in_ok-decided-in-Accept-clause-answer : goal.returns-in_ok-decided-in-Accept-clause-answer
 returns-in_ok-decided-in-Accept-clause-answer c =
-    let accepted : AcceptedAs c.args.core.now.script.topology c.args.context.now.request c.args.used.now c.args.context.now.states c.in-Accept.checked c.in-Accept.resolved = search rules in
+    let accepted : AcceptedAs c.args.core.now.script.topology c.args.context.now.request c.args.used.now
+    c.args.context.now.states c.in-Accept.boxed.value c.in-Accept.resolved = search rules in
     record {
       going = c.requires.going;
       labels = c.requires.labels;
       by = accepting_step c.args.context.now;
       decision = accepting_answer c.args.core.now c.args.context.now;
-      due = inr (record { checked = c.in-Accept.checked; resolved = c.in-Accept.resolved; accepted = accepted; is_acceptance = refl; says_so = refl });
+      due = inr (record {
+        checked = c.in-Accept.boxed.value;
+        resolved = c.in-Accept.resolved;
+        accepted = accepted;
+        is_acceptance = refl;
+        says_so = refl;
+      });
       answered = c.in_ok-decided-in-Accept.ensures.answer;
       history = c.in_ok-decided-in-Accept.ensures.history;
     }

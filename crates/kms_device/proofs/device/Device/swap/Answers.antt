@@ -1,4 +1,4 @@
-use Rattle.std.proofs.Common.{◌≡◌, refl, rules}
+use Rattle.std.proofs.Common.{◌≡◌, refl, rules, subst, sym}
 use Rattle.std.proofs.iter.Serving.{serving}
 use Rattle.kms_model.specs.declared.replies.Step.TheVariants as step
 use Rattle.kms_core.specs.Swaps.{MaySwap}
@@ -10,7 +10,10 @@ use Rattle.kms_device.proofs.device.Device.swap.Goals as goal
 
 pub turn-requires-clause-callable : goal.turn-requires-clause-callable
 turn-requires-clause-callable g c = λ found finds.
-    let may : MaySwap found c.args.t.0 c.args.used.now c.args.checked.now c.args.resolved.now = may_swap c.args.self.now.script c.args.pass.now found finds c.args.t c.args.used.now c.args.checked.now c.args.resolved.now c.requires.may in
+    let may : MaySwap found c.args.t.0 c.args.used.now c.deref-checked.result.now c.args.accepted.now.resolved =
+    subst (λ checked. MaySwap found c.args.t.0 c.args.used.now checked c.args.accepted.now.resolved) (sym c.deref-checked.ensures)
+    (may_swap c.args.self.now.script c.args.pass.now found finds c.args.t c.args.used.now c.args.accepted.now.checked.value
+    c.args.accepted.now.resolved c.requires.may) in
     grind serving
 
 pub turn-requires-clause-steps : goal.turn-requires-clause-steps

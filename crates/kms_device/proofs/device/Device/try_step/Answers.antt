@@ -1,32 +1,55 @@
-use Rattle.kms_device.proofs.TriedCases.{no_request, not_waiting, ready_then, tried_first}
+use Rattle.std.proofs.Common.{◌∙◌, ℕ, Ok, Err, ap, sym, subst}
+use Rattle.std.specs.Prelude.{IfSome, is_some}
+use Rattle.kms_model.specs.declared.copying.NoMemory.{NoMemory}
+use Rattle.kms_device.specs.Attempts.{StandsAt}
+use Rattle.kms_device.specs.Trying.{StandsAfter}
+use Rattle.kms_device.specs.Turns.{run_seen}
+use Rattle.kms_device.proofs.Places.{none_behind, some_behind, stands_behind}
+use Rattle.kms_device.proofs.TriedCases.{begins_at, tried_err}
 use Rattle.kms_device.proofs.device.Device.try_step.Goals as goal
 
-pub enter-requires-clause-ready : goal.enter-requires-clause-ready
-enter-requires-clause-ready g c = ready_then c.args.self.now.script _ c.args.pass.now c.place-place.new.pass c.args.kept c.args.client c.requires.whose c.requires.may c.requires.serves c.place-place.ensures
+pub step_at-requires : goal.step_at-requires
+step_at-requires g c =
+    let b =
+    begins_at ℕ c.args.self.now.script c.args.pass.now c.stand-here.new.pass c.args.work.now.kept c.args.client c.requires.whose c.requires.may
+    c.requires.serves c.stand-here.result c.take.result
+    (subst (λ o. IfSome o (StandsAt (run_seen c.args.self.now.script c.args.pass.now) c.args.client)) (sym c.take.ensures.value)
+    c.requires.stands) c.stand-here.ensures in
+    record { own = b.lock ∙ c.requires.own; ready = b.ready; stands = b.stands }
 
-pub give_way-requires-clause-ready : goal.give_way-requires-clause-ready
-give_way-requires-clause-ready g c = ready_then c.args.self.now.script _ c.args.pass.now c.place-place.new.pass c.args.kept c.args.client c.requires.whose c.requires.may c.requires.serves c.place-place.ensures
+pub returns-in_err-did-clause-tried : goal.returns-in_err-did-clause-tried
+returns-in_err-did-clause-tried g c =
+    let b =
+    begins_at ℕ c.args.self.now.script c.args.pass.now c.stand-here.new.pass c.args.work.now.kept c.args.client c.requires.whose c.requires.may
+    c.requires.serves c.stand-here.result c.take.result
+    (subst (λ o. IfSome o (StandsAt (run_seen c.args.self.now.script c.args.pass.now) c.args.client)) (sym c.take.ensures.value)
+    c.requires.stands) c.stand-here.ensures in
+    tried_err _ _ _ _ _ c.from_residual.result c.from_residual.ensures.0
+    (b.tried c.step_at.new.pass c.args.work.now.kept (Err 0) c.in_err-did.ensures.tried)
 
-pub take_first-requires-clause-ready : goal.take_first-requires-clause-ready
-take_first-requires-clause-ready g c = ready_then c.args.self.now.script _ c.args.pass.now c.place-place.new.pass c.args.kept c.args.client c.requires.whose c.requires.may c.requires.serves c.place-place.ensures
+pub returns-clause-tried : goal.returns-clause-tried
+returns-clause-tried g c =
+    let b =
+    begins_at ℕ c.args.self.now.script c.args.pass.now c.stand-here.new.pass c.args.work.now.kept c.args.client c.requires.whose c.requires.may
+    c.requires.serves c.stand-here.result c.take.result
+    (subst (λ o. IfSome o (StandsAt (run_seen c.args.self.now.script c.args.pass.now) c.args.client)) (sym c.take.ensures.value)
+    c.requires.stands) c.stand-here.ensures in
+    b.tried c.step_at.new.pass c.step_at.new.kept (Ok c.in_ok-did.did) c.in_ok-did.ensures.tried
 
-pub move_on-requires-clause-ready : goal.move_on-requires-clause-ready
-move_on-requires-clause-ready g c = ready_then c.args.self.now.script _ c.args.pass.now c.place-place.new.pass c.args.kept c.args.client c.requires.whose c.requires.may c.requires.serves c.place-place.ensures
+pub returns-clause-stands : goal.returns-clause-stands
+returns-clause-stands g c =
+    let b =
+    begins_at ℕ c.args.self.now.script c.args.pass.now c.stand-here.new.pass c.args.work.now.kept c.args.client c.requires.whose c.requires.may
+    c.requires.serves c.stand-here.result c.take.result
+    (subst (λ o. IfSome o (StandsAt (run_seen c.args.self.now.script c.args.pass.now) c.args.client)) (sym c.take.ensures.value)
+    c.requires.stands) c.stand-here.ensures in
+    subst (λ o. IfSome o (StandsAt (run_seen c.args.self.now.script c.step_at.new.pass) c.args.client)) (sym c.place_behind-work.ensures)
+    (stands_behind NoMemory (run_seen c.args.self.now.script c.step_at.new.pass) c.args.client c.in_ok-did.did c.step_at.new.here
+    (subst (λ n. StandsAfter {E = NoMemory} (run_seen c.args.self.now.script c.step_at.new.pass) n (Ok c.in_ok-did.did) c.step_at.new.here)
+    (b.rank ∙ c.requires.whose) c.in_ok-did.ensures.stands))
 
-pub unreachable-requires : goal.unreachable-requires
-unreachable-requires g c = no_request c.args.self.now.script c.script.result.now c.args.pass.now c.place-place.new.pass c.args.client c.place-place.result c.script.ensures c.requires.whose c.place-place.ensures c.requires.may c.in_default.ensures
+pub returns-clause-ends : goal.returns-clause-ends
+returns-clause-ends g c = λ is. c.place_behind-work.ensures ∙ none_behind c.in_ok-did.did c.step_at.new.here is
 
-pub unreachable-requires-in-Returning : goal.unreachable-requires-in-Returning
-unreachable-requires-in-Returning g c = not_waiting c.args.self.now.script c.args.pass.now c.place-place.new.pass c.args.client c.in-Returning._commit c.place-place.result c.requires.whose c.place-place.ensures c.requires.may c.in-Returning.is
-
-pub returns-in-Idle : goal.returns-in-Idle
-returns-in-Idle g c = tried_first c.args.self.now.script _ c.args.pass.now c.place-place.new.pass c.args.kept c.args.client c.requires.whose c.requires.may c.requires.serves c.place-place.ensures c.enter.new.pass c.enter.result c.enter.ensures
-
-pub returns-in-MustBackOff : goal.returns-in-MustBackOff
-returns-in-MustBackOff g c = tried_first c.args.self.now.script _ c.args.pass.now c.place-place.new.pass c.args.kept c.args.client c.requires.whose c.requires.may c.requires.serves c.place-place.ensures c.give_way.new.pass c.give_way.result c.give_way.ensures
-
-pub returns-in-BackedOff : goal.returns-in-BackedOff
-returns-in-BackedOff g c = tried_first c.args.self.now.script _ c.args.pass.now c.place-place.new.pass c.args.kept c.args.client c.requires.whose c.requires.may c.requires.serves c.place-place.ensures c.take_first.new.pass c.take_first.result c.take_first.ensures
-
-pub returns-in-Some : goal.returns-in-Some
-returns-in-Some g c = tried_first c.args.self.now.script _ c.args.pass.now c.place-place.new.pass c.args.kept c.args.client c.requires.whose c.requires.may c.requires.serves c.place-place.ensures c.move_on.new.pass c.move_on.result c.move_on.ensures
+pub returns-clause-keeps : goal.returns-clause-keeps
+returns-clause-keeps g c = λ is. ap is_some c.place_behind-work.ensures ∙ some_behind c.in_ok-did.did c.step_at.new.here is

@@ -1,7 +1,7 @@
 use Rattle.std.proofs.Common.{ap, ◌∙◌, ◌≡◌, Some, None, refl, rules, subst, sym}
 use Rattle.kms_model.specs.Device.Serial.{command_of}
 use Rattle.kms_io.proofs.Joins.{OnErr-always}
-use Rattle.kms_players.proofs.Standing.{at_command, attempting_anew, ends, err_then, idle_told, may_attempt, ok_attempt, open_told, plays_plain}
+use Rattle.kms_players.proofs.Standing.{at_command, attempting_anew, begun_anew, ends, err_then, idle_told, may_attempt, ok_attempt, open_told, plays_plain}
 use Rattle.kms_device.proofs.Went.{went_later}
 use Rattle.kms_players.proofs.Waits.{went_none}
 use Rattle.kms_players.proofs.site.Site.ask.Goals as goal
@@ -30,7 +30,8 @@ returns-in-Atomic g c = record {
       ok_attempt _ _ _ _ _ _ _ c.attempt.result (went_none _ _ _ _ c.place-place.ensures)
       (may_attempt c.args.self.now.device.now.script c.args.self.now.client c.place-place.result _ _ c.place-place.ensures c.in_default.not-Returning c.in-Atomic._request
       (sym (subst (λ s. Some c.in-Some.command.now ≡ command_of s (record { client = c.args.self.now.client; command = c.place-place.result.command })) c.script-script.ensures c.in-Some.ensures) ∙ ap Some c.in-Atomic.is))
-      c.attempt.ensures.turn;
+      (begun_anew c.args.self.now.device.now.script c.args.self.now.client _ _ c.args.kept.now c.at.result c.attempt.new.kept c.place-place.result
+      c.attempt.result c.requires.new c.at.ensures c.attempt.ensures.turn);
   under_way = c.attempt.ensures.under_way;
   no_step = err_then c.attempt.result (went_later _ _ _ _ (went_none _ _ _ _ c.place-place.ensures)) c.attempt.ensures.no_step;
   anew = c.attempt.ensures.anew;
@@ -41,8 +42,8 @@ attempt-requires g c = record {
   own = ap (λ p. p.lock) c.place-place.ensures.now ∙ c.requires.at.own;
   whose = ap (λ p. p.rank) c.place-place.ensures.now ∙ c.requires.at.whose;
   attempting =
-      attempting_anew c.args.self.now.device.now.script c.args.self.now.client c.place-place.result _ _ c.place-place.ensures c.in_default.not-Returning c.in-Atomic._request c.args.kept.now
-      (sym (subst (λ s. Some c.in-Some.command.now ≡ command_of s (record { client = c.args.self.now.client; command = c.place-place.result.command })) c.script-script.ensures c.in-Some.ensures) ∙ ap Some c.in-Atomic.is) c.requires.new;
+      attempting_anew c.args.self.now.device.now.script c.args.self.now.client c.place-place.result _ _ c.place-place.ensures c.in_default.not-Returning c.in-Atomic._request c.at.result
+      (sym (subst (λ s. Some c.in-Some.command.now ≡ command_of s (record { client = c.args.self.now.client; command = c.place-place.result.command })) c.script-script.ensures c.in-Some.ensures) ∙ ap Some c.in-Atomic.is) c.at.ensures;
 }
 
 pub execute-requires : goal.execute-requires
