@@ -4,6 +4,7 @@
 //! puts it back at the end. All of it is this device's own; the queue is `crossbeam_queue`'s.
 #![tactic(auto)]
 
+mod idle;
 mod participant;
 mod player;
 mod quiet;

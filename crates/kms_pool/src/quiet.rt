@@ -1,15 +1,13 @@
-//! When the threads of a round stop.
+//! Which threads of a round are at work, and when all stop.
+use crate::idle::Idle;
 use kms_model::NoMemory;
 use std::sync::Wait;
 use std::sync::atomic::{AtomicBool, AtomicU64, Ordering};
 use std::thread::yield_now;
-use std::time::Duration;
 
-/// How many times in a row a thread that finds no turn to give yields before it sleeps, a count.
-const YIELDS: u32 = 200;
-
-/// How many microseconds it sleeps then.
-const NAP: u64 = 50;
+/// How many threads look for players and give turns at a time, a count, unless those that do are held. Turns are mostly under
+/// one lock, so that more threads would wait for one another.
+const AT_WORK: u64 = 2;
 
 /// How many threads are at the queue or in a turn, and how many players in a row were to have no turn. It only saves
 /// turns: whether the players have settled is asked of their answers, once no thread is at work.
@@ -18,8 +16,10 @@ pub(crate) struct Quiet {
     going: AtomicU64,
     in_a_row: AtomicU64,
     enough: u64,
+    // How many turns have ended.
+    turns_ended: AtomicU64,
     stopped: AtomicBool,
-    // It is 0 always: threads sleep on it.
+    // Threads sleep on it. It is 1 once the round is over.
     sleepers: AtomicU64,
 }
 
@@ -30,24 +30,36 @@ impl Quiet {
             going: AtomicU64::new(0),
             in_a_row: AtomicU64::new(0),
             enough,
+            turns_ended: AtomicU64::new(0),
             stopped: AtomicBool::new(false),
             sleepers: AtomicU64::new(0),
         }
     }
 
-    // Whether no player is to be looked for now.
+    /// Whether no player is to be looked for now.
     fn is_quiet(&self) -> bool {
         self.in_a_row.load(Ordering::SeqCst) >= self.enough || self.stopped.load(Ordering::SeqCst)
     }
 
-    /// Begins to look for a player. False where none is to be looked for now: none had a turn, one after the other.
-    pub(crate) fn begin(&self) -> bool {
-        if self.is_quiet() {
+    /// Whether a thread may look for players beside so many, a count. Where it has slept and no turn has ended, they are held.
+    fn has_room(&self, going: u64, idle: &Idle) -> bool {
+        going < AT_WORK || idle.slept_through(self.turns_ended.load(Ordering::SeqCst))
+    }
+
+    /// Whether a thread may look for players beside so many, a count, and there may be some that are to have a turn.
+    fn has_work(&self, going: u64, idle: &Idle) -> bool {
+        !self.is_quiet() && self.has_room(going, idle)
+    }
+
+    /// Begins to look for a player. False where none is to be looked for now: none had a turn, one after the other, or enough
+    /// threads look for one.
+    pub(crate) fn begin(&self, idle: &Idle) -> bool {
+        if !self.has_work(self.going.load(Ordering::SeqCst), idle) {
             return false;
         }
-        self.going.fetch_add(1, Ordering::SeqCst);
-        // Another thread may have told of the last one in between, and then some may have gone home already.
-        if self.is_quiet() {
+        let going = self.going.fetch_add(1, Ordering::SeqCst);
+        // Another thread may have begun, or told of the last one in between, and then some may have gone home already.
+        if !self.has_work(going, idle) {
             self.going.fetch_sub(1, Ordering::SeqCst);
             return false;
         }
@@ -58,6 +70,7 @@ impl Quiet {
     /// earlier history, so that all are looked at again behind it.
     pub(crate) fn stir(&self) {
         self.in_a_row.store(0, Ordering::SeqCst);
+        self.turns_ended.fetch_add(1, Ordering::SeqCst);
     }
 
     /// Ends what was begun: whether the player had a turn, if one was found. Without memory no further turn begins.
@@ -72,20 +85,25 @@ impl Quiet {
         self.going.fetch_sub(1, Ordering::SeqCst);
     }
 
-    /// Lets some time go by for a thread that found nothing to do so many times in a row, and counts on. It yields at
-    /// first; where that goes on it sleeps for a moment. Nobody wakes it.
-    pub(crate) fn pause<W: Wait>(&self, rt: &W, idle: u32) -> u32 {
-        if idle < YIELDS {
+    /// Lets some time go by for a thread that is not to look for a player, or found none. Where there is room for it, it yields
+    /// at first. Where that goes on, or there is no room, it sleeps, for longer each time, or until the round is over.
+    pub(crate) fn pause<W: Wait>(&self, rt: &W, idle: &mut Idle) {
+        if self.going.load(Ordering::SeqCst) < AT_WORK && idle.yields() {
             yield_now();
         } else {
-            self.sleepers
-                .park_timeout(rt, 0, Duration::from_micros(NAP));
+            let sleep = idle.begin_sleep(self.turns_ended.load(Ordering::SeqCst));
+            self.sleepers.park_timeout(rt, 0, sleep);
         }
-        idle.saturating_add(1)
     }
 
     /// Whether no player is to be looked for, and no thread is in a turn that may change this.
     pub(crate) fn is_over(&self) -> bool {
         self.going.load(Ordering::SeqCst) == 0 && self.is_quiet()
+    }
+
+    /// Wakes all threads that sleep, once the round is over.
+    pub(crate) fn wake_sleepers(&self) {
+        self.sleepers.store(1, Ordering::SeqCst);
+        self.sleepers.wake_all();
     }
 }

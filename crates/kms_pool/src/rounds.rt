@@ -15,7 +15,7 @@ use std::sync::Wait;
 use std::thread;
 use std::thread::Threads;
 
-// What one thread has: its pass of the queue, and the result of its work.
+/// What one thread has: its pass of the queue, and the result of its work.
 #[derive(Drop)]
 struct PoolThread<P: Player> {
     pass: QueuePass<P>,
@@ -45,7 +45,7 @@ pub fn drive<P: Player + Send, R: Threads + Wait + Sync>(
     unreachable!()
 }
 
-// The participants of players that have had no turn here.
+/// The participants of players that have had no turn here.
 fn participants_of<P: Player>(
     alloc: Global,
     players: Seq<P>,
@@ -60,7 +60,7 @@ fn participants_of<P: Player>(
     Ok(participants)
 }
 
-// The players of participants.
+/// The players of participants.
 fn players_of<P: Player>(
     alloc: Global,
     participants: Vec<Participant<P>>,
@@ -74,7 +74,7 @@ fn players_of<P: Player>(
     Ok(Seq::from_vec(players))
 }
 
-// Whether all have ended, or all that have not answered `NotYet` at one length.
+/// Whether all have ended, or all that have not answered `NotYet` at one length.
 fn all_rest<P: Player>(participants: &[Participant<P>]) -> bool
     ensures { IsTrue result → AllRest (λ x. P.answer x.player.value) participants.now }
 {
@@ -84,7 +84,7 @@ fn all_rest<P: Player>(participants: &[Participant<P>]) -> bool
         .all(|participant| participant.rests(length))
 }
 
-// The length at which the first player answered `NotYet`; 0 where there is none.
+/// The length at which the first player answered `NotYet`; 0 where there is none.
 fn awaited_length<P: Player>(participants: &[Participant<P>]) -> u64 {
     for participant in participants {
         if let Some(length) = participant.awaits() {
@@ -94,7 +94,7 @@ fn awaited_length<P: Player>(participants: &[Participant<P>]) -> u64 {
     0
 }
 
-// Gives turns until nothing comes of as many in a row as there are players, or there is no memory in one.
+/// Gives turns until nothing comes of as many in a row as there are players, or there is no memory in one.
 fn round<P: Player + Send, R: Threads + Wait + Sync>(
     rt: &R,
     alloc: Global,
@@ -115,7 +115,7 @@ fn round<P: Player + Send, R: Threads + Wait + Sync>(
     take_all(rt, alloc, &queue, pass)
 }
 
-// Puts all players into the queue.
+/// Puts all players into the queue.
 fn bring_all<P: Player, W: Wait>(
     rt: &W,
     queue: &Queue<P>,
@@ -132,7 +132,7 @@ fn bring_all<P: Player, W: Wait>(
     }
 }
 
-// Hires workers, each with a pass of its own, which is split off this one.
+/// Hires workers, each with a pass of its own, which is split off this one.
 fn hire<P: Player>(
     alloc: Global,
     queue: &Queue<P>,
@@ -159,7 +159,7 @@ fn hire<P: Player>(
     Ok(workers)
 }
 
-// Lets each worker work, in a thread of its own.
+/// Lets each worker work, in a thread of its own.
 fn run<P: Player + Send, R: Threads + Wait + Sync>(
     rt: &R,
     alloc: Global,
@@ -186,7 +186,7 @@ fn run<P: Player + Send, R: Threads + Wait + Sync>(
     );
 }
 
-// Takes the workers' passes in. The error is want of memory in a turn.
+/// Takes the workers' passes in. The error is want of memory in a turn.
 fn dismiss<P: Player>(
     queue: &Queue<P>,
     pass: &mut QueuePass<P>,
@@ -208,7 +208,7 @@ fn dismiss<P: Player>(
     Ok(())
 }
 
-// Takes all players out of the queue.
+/// Takes all players out of the queue.
 fn take_all<P: Player, W: Wait>(
     rt: &W,
     alloc: Global,

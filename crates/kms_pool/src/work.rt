@@ -5,6 +5,7 @@ ghost use Rattle.crossbeam_queue.specs.Passes.{view, IsPassOf, IsSamePass, ruled
 ghost use Rattle.kms_pool.specs.Playing.{IsSpared};
 ghost use Rattle.kms_pool.specs.Rules.{hand, IsBalanced};
 
+use crate::idle::Idle;
 use crate::participant::Participant;
 use crate::player::{Player, Turn};
 use crate::quiet::Quiet;
@@ -42,8 +43,8 @@ pub(crate) fn put<P: Player, M: Outcome<Participant<P>, Hand<P::Name>>, W: Wait>
     unreachable!()
 }
 
-// Gives a player turns as long as it does something, and so many at most, unless nothing would come of the first. Tells
-// whether it had one.
+/// Gives a player turns as long as it does something, and so many at most, unless nothing would come of the first. Tells
+/// whether it had one.
 fn give_turns<P: Player, W: Wait>(
     rt: &W,
     alloc: Global,
@@ -66,8 +67,8 @@ fn give_turns<P: Player, W: Wait>(
     Ok(true)
 }
 
-// Gives the first player in the queue turns, and puts it back. Tells whether it had one; none where no player is in the
-// queue.
+/// Gives the first player in the queue turns, and puts it back. Tells whether it had one; none where no player is in the
+/// queue.
 fn step<P: Player, W: Wait>(
     rt: &W,
     alloc: Global,
@@ -100,22 +101,23 @@ pub(crate) fn work<P: Player, W: Wait>(
     ensures own { IsSamePass pass.old pass.new }
     ensures idle { view pass.new ≡ hand 1 [] [] }
 {
-    let mut idle = 0u32;
+    let mut idle = Idle::new();
     for _ in rt.forever() {
-        if quiet.begin() {
+        if quiet.begin(&idle) {
             let had = step(rt, alloc, queue, quiet, pass);
             quiet.end(&had);
             match had {
-                Some(Ok(true)) => idle = 0,
+                Some(Ok(true)) => idle = Idle::new(),
                 Some(Ok(false)) => {}
                 Some(Err(e)) => return Err(e),
                 // There are more threads than players.
-                None => idle = quiet.pause(rt, idle),
+                None => quiet.pause(rt, &mut idle),
             }
         } else if quiet.is_over() {
+            quiet.wake_sleepers();
             return Ok(());
         } else {
-            idle = quiet.pause(rt, idle);
+            quiet.pause(rt, &mut idle);
         }
     }
     unreachable!()

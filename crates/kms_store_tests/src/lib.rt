@@ -11,6 +11,8 @@ mod counting;
 #[cfg(test)]
 mod freeing;
 #[cfg(test)]
+mod holding;
+#[cfg(test)]
 mod lists;
 #[cfg(test)]
 mod locks;

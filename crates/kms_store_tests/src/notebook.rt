@@ -187,18 +187,25 @@ fn work<W: Wait>(
     Worked { pass, places }
 }
 
+// Two passes that work side by side.
+#[derive(Drop)]
+struct Pair {
+    one: Pass<Notebook>,
+    other: Pass<Notebook>,
+}
+
 // Two passes at work, each in a thread of its own.
 fn two<R: Threads + Wait + Sync>(
     rt: &R,
     alloc: Global,
     lock: &HistLock<Notebook>,
-    one: Pass<Notebook>,
-    other: Pass<Notebook>,
+    pair: Pair,
     turns: u32,
 ) -> (Worked, Worked)
-    requires own { (one.lock ≡ lock.now.lock) × (other.lock ≡ lock.now.lock) }
-    ensures same { IsSamePass one result.0.pass × IsSamePass other result.1.pass }
+    requires own { (pair.one.lock ≡ lock.now.lock) × (pair.other.lock ≡ lock.now.lock) }
+    ensures same { IsSamePass pair.one result.0.pass × IsSamePass pair.other result.1.pass }
 {
+    let Pair { one, other } = pair;
     join(
         rt,
         || work(rt, alloc, lock, one, turns),
@@ -211,27 +218,25 @@ fn four<R: Threads + Wait + Sync>(
     rt: &R,
     alloc: Global,
     lock: &HistLock<Notebook>,
-    a: Pass<Notebook>,
-    b: Pass<Notebook>,
-    c: Pass<Notebook>,
-    d: Pass<Notebook>,
+    first: Pair,
+    last: Pair,
     turns: u32,
 ) -> ((Worked, Worked), (Worked, Worked))
-    requires first { (a.lock ≡ lock.now.lock) × (b.lock ≡ lock.now.lock) }
-    requires last { (c.lock ≡ lock.now.lock) × (d.lock ≡ lock.now.lock) }
-    ensures first { IsSamePass a result.0.0.pass × IsSamePass b result.0.1.pass }
-    ensures last { IsSamePass c result.1.0.pass × IsSamePass d result.1.1.pass }
+    requires first { (first.one.lock ≡ lock.now.lock) × (first.other.lock ≡ lock.now.lock) }
+    requires last { (last.one.lock ≡ lock.now.lock) × (last.other.lock ≡ lock.now.lock) }
+    ensures first { IsSamePass first.one result.0.0.pass × IsSamePass first.other result.0.1.pass }
+    ensures last { IsSamePass last.one result.1.0.pass × IsSamePass last.other result.1.1.pass }
 {
     join(
         rt,
         || -> (Worked, Worked)
-            requires { (a.lock ≡ lock.now.lock) × (b.lock ≡ lock.now.lock) }
-            ensures { IsSamePass a result.0.pass × IsSamePass b result.1.pass }
-        { two(rt, alloc, lock, a, b, turns) },
+            requires { (first.one.lock ≡ lock.now.lock) × (first.other.lock ≡ lock.now.lock) }
+            ensures { IsSamePass first.one result.0.pass × IsSamePass first.other result.1.pass }
+        { two(rt, alloc, lock, first, turns) },
         || -> (Worked, Worked)
-            requires { (c.lock ≡ lock.now.lock) × (d.lock ≡ lock.now.lock) }
-            ensures { IsSamePass c result.0.pass × IsSamePass d result.1.pass }
-        { two(rt, alloc, lock, c, d, turns) },
+            requires { (last.one.lock ≡ lock.now.lock) × (last.other.lock ≡ lock.now.lock) }
+            ensures { IsSamePass last.one result.0.pass × IsSamePass last.other result.1.pass }
+        { two(rt, alloc, lock, last, turns) },
     )
 }
 
@@ -260,7 +265,7 @@ fn two_threads_take_turns(rt: HostRuntime) -> Result<(), Fail> {
         panic!(rt; "no passes")
     };
     assert!(rt; one.rank() == 1 && other.rank() == 2);
-    let (one, other) = two(&rt, rt.alloc(), &lock, one, other, 500);
+    let (one, other) = two(&rt, rt.alloc(), &lock, Pair { one, other }, 500);
     assert!(rt; one.places.len() == 500 && other.places.len() == 500);
     assert!(rt; one.pass.seen_len() >= 500 && other.pass.seen_len() >= 500);
     passes.push(other.pass)?;
@@ -293,13 +298,15 @@ fn an_unused_pass_reads_what_another_made(rt: HostRuntime) -> Result<(), Fail> {
 fn four_threads_take_a_hundred_thousand_turns(rt: HostRuntime) -> Result<(), Fail> {
     let (lock, passes) = HistLock::new(rt.alloc(), Notebook::new(rt.alloc()), 4)?;
     let mut passes = passes.into_vec();
-    let (Some(d), Some(c)) = (passes.pop(), passes.pop()) else {
+    let (Some(other), Some(one)) = (passes.pop(), passes.pop()) else {
         panic!(rt; "no passes")
     };
-    let (Some(b), Some(a)) = (passes.pop(), passes.pop()) else {
+    let last = Pair { one, other };
+    let (Some(other), Some(one)) = (passes.pop(), passes.pop()) else {
         panic!(rt; "no passes")
     };
-    let ((a, b), (c, d)) = four(&rt, rt.alloc(), &lock, a, b, c, d, 25_000);
+    let first = Pair { one, other };
+    let ((a, b), (c, d)) = four(&rt, rt.alloc(), &lock, first, last, 25_000);
     assert!(rt; a.places.len() == 25_000 && b.places.len() == 25_000);
     assert!(rt; c.places.len() == 25_000 && d.places.len() == 25_000);
     let passes = Vec::from_array(rt.alloc(), [c.pass, a.pass, d.pass, b.pass])?;
