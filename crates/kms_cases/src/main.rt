@@ -4,7 +4,7 @@
 mod running;
 mod telling;
 
-use kms_casebook::{FileError, read_cases};
+use kms_samples::casebook::{FileError, read_cases};
 use std::io;
 use std::io::Read;
 use std::process::ExitCode;

@@ -1,8 +1,8 @@
 //! A case answered by the program, over memory.
 
-use kms_casebook::{Case, Ending};
 use kms_io::{MemSink, MemSource};
 use kms_run::{is_run, kms_plain, status_text};
+use kms_samples::casebook::{Case, Ending};
 use std::alloc::{AllocError, Global};
 use std::thread::Threads;
 

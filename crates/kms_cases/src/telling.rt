@@ -1,7 +1,7 @@
 //! What is found, compared with what is wanted, and told.
 
 use crate::running::run_case;
-use kms_casebook::{Case, Ending, show};
+use kms_samples::casebook::{Case, Ending, show};
 use std::io;
 use std::thread::Threads;
 

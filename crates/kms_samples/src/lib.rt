@@ -1,8 +1,9 @@
 //! Modes, devices, ids, gamma tables and requests that tests are about, each with its exact value; texts of
-//! scripts; and numbers by chance.
-//! Nothing but tests, and definitions for tests, calls this crate.
+//! scripts; numbers by chance; and files of cases, read.
+//! Only tests, definitions for tests, and `kms_cases` call this crate.
 #![tactic(auto)]
 
+pub mod casebook;
 mod chance;
 mod devices;
 mod gammas;

@@ -1,5 +1,5 @@
 //! Files of cases: the first line that may not stand, and what lines say.
-use kms_casebook::{Case, FileError, read_cases, show};
+use kms_samples::casebook::{Case, FileError, read_cases, show};
 use std::alloc::{AllocError, Global};
 use std::test::Fail;
 

@@ -1,5 +1,0 @@
-use Rattle.kms_histlock.specs.Passes.{IsSamePass}
-use Rattle.kms_pass_calls.proofs.turns.prepare.Given as goal
-
-abbrev pub invariant-loop-thing : goal.invariant-loop-thing
-invariant-loop-thing g l = IsSamePass l.fn.pass l.pass

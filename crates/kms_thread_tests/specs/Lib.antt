@@ -1,0 +1,4 @@
+pub mod Pairs
+pub mod Resolving
+pub mod Told
+pub mod Four
