@@ -1,1 +1,2 @@
 mod LaneByLane
+mod Moves

@@ -1,8 +1,7 @@
 //! Blending of a layer's channels with those below them.
 //!
-//! Nothing here takes memory, fails or uses floating point. All of it is done in 32 bits, and in 16 where the
-//! plane is opaque, with no wide multiplication and no division. A row is blended 16 places at a time, and the
-//! blend mode is chosen once for it.
+//! Nothing here takes memory, fails or uses floating point, and there is no division. A row is blended 16 places at a time, in
+//! lanes of 16 bits, and the blend mode is chosen once for it.
 #![tactic(auto)]
 
 ghost use Rattle.std.specs.Prelude.{◌≡◌, ◌≤◌, ◌+◌, length, slice_index, EachIndex};
@@ -13,6 +12,7 @@ mod lanes;
 mod modes;
 mod quotients;
 
+use lanes::{LowerHalf, UpperHalf};
 use modes::{BlendMode, Coverage, PlaneAlphaOnly, Premultiplied};
 use std::simd::prelude::*;
 
@@ -56,7 +56,7 @@ pub fn blend_row(mode: u32, a: u32, q: &[u8], f: &[u8], b: &mut [u8])
     }
 }
 
-/// [`blend_row`] in one mode: 16 places at a time, and then one place after the other.
+/// [`blend_row`] in one mode: 16 places at a time, four times a round, and then one place after the other.
 fn row_in<M: BlendMode>(a: u32, q: &[u8], f: &[u8], b: &mut [u8])
     requires a { a ≤ 65535 }
     requires q { length q.now ≡ length b.old }
@@ -65,8 +65,14 @@ fn row_in<M: BlendMode>(a: u32, q: &[u8], f: &[u8], b: &mut [u8])
         ≡ blended M.number a (slice_index q.now k) (slice_index f.now k) (slice_index b.old k)) }
     ensures length { length b.new ≡ length b.old }
 {
+    let rounds = b.len() / 64;
+    for round in 0..rounds {
+        for step in 0..4 {
+            blend_block::<M>(a, q, f, b, 64 * round + 16 * step);
+        }
+    }
     let blocks = b.len() / 16;
-    for block in 0..blocks {
+    for block in 4 * rounds..blocks {
         blend_block::<M>(a, q, f, b, 16 * block);
     }
     for i in 16 * blocks..b.len() {
@@ -89,7 +95,7 @@ fn blend_block<M: BlendMode>(a: u32, q: &[u8], f: &[u8], b: &mut [u8], at: usize
     blend_lanes::<M>(a, q, f, lower).copy_to_slice(&mut b[at..]);
 }
 
-/// The channels that show at 16 places, in half as many bits where the plane is opaque.
+/// The channels that show at 16 places. The alpha's half is read off its 16 bits, so that LLVM learns nothing of those above (`unfolded`).
 fn blend_lanes<M: BlendMode>(a: u32, q: u8x16, f: u8x16, b: u8x16) -> u8x16
     requires { a ≤ 65535 }
     ensures { HasLanes result (λ i.
@@ -97,7 +103,9 @@ fn blend_lanes<M: BlendMode>(a: u32, q: u8x16, f: u8x16, b: u8x16) -> u8x16
 {
     if a == 65535 {
         M::blend_opaque(q, f, b)
+    } else if (a as u16) < 32768 {
+        M::blend_lanes::<LowerHalf>(a, q, f, b)
     } else {
-        M::blend_lanes(a, q, f, b)
+        M::blend_lanes::<UpperHalf>(a, q, f, b)
     }
 }

@@ -3,8 +3,10 @@ ghost use Rattle.std.specs.Prelude.{◌≡◌, ◌+◌, ◌-◌, ◌*◌, ◌/�
 ghost use Rattle.kms_model.specs.Frames.FrameBytes.{blended, opaque};
 ghost use Rattle.kms_blend.specs.Lanes.{HasLanes};
 
-use crate::lanes;
-use crate::lanes::{of_pixels, of_plane, weighted_by_pixels};
+use crate::lanes::{
+    AlphaHalf, distances, downwards, parts_of_bytes, parts_of_products, products, shifted,
+    short_distances, short_downwards, weighted_by_pixels, wholes,
+};
 use crate::quotients::over_opaque;
 use std::simd::prelude::*;
 
@@ -31,12 +33,14 @@ pub trait BlendMode {
         ensures { result ≡ blended number a q f b };
 
     /// The channels that show at 16 places.
-    fn blend_lanes(a: u32, q: u8x16, f: u8x16, b: u8x16) -> u8x16
-        requires { a ≤ 65535 }
+    fn blend_lanes<H: AlphaHalf>(a: u32, q: u8x16, f: u8x16, b: u8x16) -> u8x16
+        requires least { H.least ≤ a }
+        requires most { a ≤ H.most }
+        requires a { a ≤ 65535 }
         ensures { HasLanes result (λ i.
             blended number a (slice_index q i) (slice_index f i) (slice_index b i)) };
 
-    /// The same where the plane is opaque, in half as many bits.
+    /// The same where the plane is opaque.
     fn blend_opaque(q: u8x16, f: u8x16, b: u8x16) -> u8x16
         ensures { HasLanes result (λ i.
             blended number 65535 (slice_index q i) (slice_index f i) (slice_index b i)) };
@@ -58,8 +62,11 @@ impl BlendMode for Premultiplied {
         weighted(a * 255, a * q, f, b)
     }
 
-    fn blend_lanes(a: u32, q: u8x16, f: u8x16, b: u8x16) -> u8x16 {
-        lanes::weighted(of_plane(a), of_pixels(a, q), f, b)
+    fn blend_lanes<H: AlphaHalf>(a: u32, q: u8x16, f: u8x16, b: u8x16) -> u8x16 {
+        let shown = wholes(a, f);
+        let hidden = products(q, b);
+        let by = parts_of_products::<H>(a, short_distances(shown, hidden));
+        shifted(short_downwards(shown, hidden), b, by)
     }
 
     fn blend_opaque(q: u8x16, f: u8x16, b: u8x16) -> u8x16 {
@@ -74,9 +81,9 @@ impl BlendMode for Coverage {
         weighted(a * q, a * q, f, b)
     }
 
-    fn blend_lanes(a: u32, q: u8x16, f: u8x16, b: u8x16) -> u8x16 {
-        let shown = of_pixels(a, q);
-        lanes::weighted(shown, shown, f, b)
+    fn blend_lanes<H: AlphaHalf>(a: u32, q: u8x16, f: u8x16, b: u8x16) -> u8x16 {
+        let by = parts_of_products::<H>(a, products(q, distances(f, b)));
+        shifted(downwards(f, b), b, by)
     }
 
     fn blend_opaque(q: u8x16, f: u8x16, b: u8x16) -> u8x16 {
@@ -91,9 +98,8 @@ impl BlendMode for PlaneAlphaOnly {
         weighted(a * 255, a * 255, f, b)
     }
 
-    fn blend_lanes(a: u32, _q: u8x16, f: u8x16, b: u8x16) -> u8x16 {
-        let shown = of_plane(a);
-        lanes::weighted(shown, shown, f, b)
+    fn blend_lanes<H: AlphaHalf>(a: u32, _q: u8x16, f: u8x16, b: u8x16) -> u8x16 {
+        shifted(downwards(f, b), b, parts_of_bytes(a, distances(f, b)))
     }
 
     fn blend_opaque(_q: u8x16, f: u8x16, _b: u8x16) -> u8x16 {

@@ -18,5 +18,10 @@ block_more blend q f old now new at end is before block = record {
     kept : (a b : ℕ) (g : ℕ → ℕ) → a ≡ b → g a ≡ g b
     kept a b g e = rw e refl
 
+pub loop-step-preserved : goal.loop-step-preserved
+loop-step-preserved g c =
+    block_more _ _ _ _ _ _ (64 * c.loop-round.round + 16 * c.loop-step.step) _ (omega arith) c.loop-step.invariant c.blend_block.ensures
+
 pub loop-block-preserved : goal.loop-block-preserved
-loop-block-preserved g c = block_more _ _ _ _ _ _ (16 * c.loop-block.block) _ (omega arith) c.loop-block.invariant c.blend_block.ensures
+loop-block-preserved g c =
+    block_more _ _ _ _ _ _ (16 * c.loop-block.block) _ (omega arith) c.loop-block.invariant c.blend_block-in-loop-block.ensures
