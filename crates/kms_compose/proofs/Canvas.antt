@@ -45,7 +45,7 @@ range_length f size a (suc n) h =
 
 -- A part of a list put in the place of another
 
-put_between : (before middle behind new : List ℕ) (at n : ℕ) → length before ≡ at → length middle ≡ n → put_mid at n (before ++ (middle ++ behind)) new ≡ before ++ (new ++ behind)
+pub put_between : (before middle behind new : List ℕ) (at n : ℕ) → length before ≡ at → length middle ≡ n → put_mid at n (before ++ (middle ++ behind)) new ≡ before ++ (new ++ behind)
 put_between before middle behind new at n first count =
     let front = take_at before (middle ++ behind) at first in
     let back = drop_at before (middle ++ behind) at first in

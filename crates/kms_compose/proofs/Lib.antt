@@ -1,3 +1,4 @@
+pub mod Bands
 pub mod Canvas
 pub mod Clipped
 pub mod Differing
@@ -6,5 +7,4 @@ pub mod Recomposed
 pub mod RowByRow
 pub mod Runs
 pub mod SameFrames
-pub mod SharedRows
 pub mod Visible

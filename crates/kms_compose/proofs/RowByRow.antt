@@ -8,16 +8,26 @@ use borrow.Rule.Slice.PartMut.{put_mid}
 use Rattle.kms_model.specs.declared.pictures.Colour.{Colour}
 use Rattle.kms_model.specs.Frames.FrameBytes.{black, channels}
 use Rattle.kms_compose.specs.declared.areas.Area.{Area}
-use Rattle.kms_compose.specs.Areas.{FitsIn, canvas, drawn, is_in}
+use Rattle.kms_compose.specs.Areas.{FitsIn, canvas, drawn, in_columns, is_in}
 use Rattle.kms_compose.specs.Parts.{is_within}
-use Rattle.kms_compose.proofs.Canvas.{canvas-same, in_run, range_split, run_drawn, take-put_mid}
+use Rattle.kms_compose.proofs.Canvas.{canvas-same, in_run, inside_run, range_split, run_drawn, take-put_mid}
 
 -- a pixel is in one of the rows of a rectangle before this one
 abbrev pub in_rows : Area → ℕ → ℕ → ℕ → Bool
 in_rows a end x y = is_within a.left a.width x && is_within a.top (end - a.top) y
 
+-- a rectangle in a frame that has its rows alone
+abbrev pub at_top : Area → Area
+at_top a = record {
+  left = a.left;
+  top = 0;
+  width = a.width;
+  height = a.height;
+}
+
 -- some pixels of a row more
-pub pixels_more : (f : ℕ → List ℕ) (old run : List ℕ) (left done more at n end : ℕ) → at ≡ 3 * done → n ≡ 3 * more → end ≡ 3 * (done + more) → length run ≡ n → at + n ≤ length old →
+pub pixels_more : (f : ℕ → List ℕ) (old run : List ℕ) (left done more at n end : ℕ) → at ≡ 3 * done → n ≡ 3 * more →
+    end ≡ 3 * (done + more) → length run ≡ n → at + n ≤ length old →
     take (3 * done) old ≡ flat_map f (range_with_len left done) → run ≡ flat_map f (range_with_len (left + done) more) →
     take end (put_mid at n old run) ≡ flat_map f (range_with_len left (done + more))
 pixels_more f old run left done more at n end first size last long fits before now =
@@ -36,7 +46,8 @@ no_row a x y = none (is_within a.left a.width x) (is_within a.top (a.top - a.top
 module _ (new before : ℕ → ℕ → Colour) where
   -- before the first row nothing is drawn
   pub rows_none : (a : Area) (width height : ℕ) → canvas width height before ≡ canvas width height (drawn (in_rows a a.top) new before)
-  rows_none a width height = canvas-same width height before (drawn (in_rows a a.top) new before) (λ x y _ _. let off = no_row a x y in rw off refl)
+  rows_none a width height = canvas-same width height before (drawn (in_rows a a.top) new before)
+      (λ x y _ _. let off = no_row a x y in rw off refl)
 
   -- one row more
   row_more : (top y j : ℕ) → top ≤ y → ((j == y) || is_within top (y - top) j) ≡ is_within top (y + 1 - top) j
@@ -67,24 +78,35 @@ module _ (new before : ℕ → ℕ → Colour) where
   drawn_twice true false c n o = refl
   drawn_twice false b c n o = refl
 
-  pub rows_more : (a : Area) (width height y at n : ℕ) (bytes row : List ℕ) → FitsIn width height a → a.top ≤ y → y < a.top + a.height → at ≡ 3 * (y * width + a.left) → n ≡ 3 * a.width →
-      bytes ≡ canvas width height (drawn (in_rows a y) new before) → row ≡ flat_map (λ x. channels (new x y)) (range_with_len a.left a.width) →
+  pub rows_more : (a : Area) (width height y at n : ℕ) (bytes row : List ℕ) → FitsIn width height a → a.top ≤ y → y < a.top + a.height →
+      at ≡ 3 * (y * width + a.left) → n ≡ 3 * a.width →
+      bytes ≡ canvas width height (drawn (in_rows a y) new before) →
+      row ≡ flat_map (λ x. channels (new x y)) (range_with_len a.left a.width) →
       put_mid at n bytes row ≡ canvas width height (drawn (in_rows a (y + 1)) new before)
   rows_more a width height y at n bytes row fits low high start size now made =
       let start' : at ≡ y * (width * 3) + a.left * 3 = omega (arith, start) in
       let size' : n ≡ a.width * 3 = omega (arith, size) in
       ap (λ (xs : List ℕ). put_mid at n xs row) now
       ∙ ap (put_mid at n (canvas width height (drawn (in_rows a y) new before))) made
-      ∙ run_drawn new (drawn (in_rows a y) new before) a.left a.width y width height at n (omega (arith, high, fits.down)) fits.across start' size'
-      ∙ canvas-same width height (drawn (in_run a.left a.width y) new (drawn (in_rows a y) new before)) (drawn (in_rows a (y + 1)) new before) (λ i j _ _.
+      ∙ run_drawn new (drawn (in_rows a y) new before) a.left a.width y width height at n
+      (omega (arith, high, fits.down)) fits.across start' size'
+      ∙ canvas-same width height (drawn (in_run a.left a.width y) new (drawn (in_rows a y) new before))
+      (drawn (in_rows a (y + 1)) new before) (λ i j _ _.
       drawn_twice (is_within a.left a.width i) (j == y) (is_within a.top (y - a.top) j) (new i j) (before i j)
       ∙ ap (λ (t : Bool). cond (is_within a.left a.width i && t) (new i j) (before i j)) (row_more a.top y j low))
 
-  -- all rows are the rectangle
-  pub rows_all : (a : Area) (width height end : ℕ) → end ≡ a.top + a.height → canvas width height (drawn (in_rows a end) new before) ≡ canvas width height (drawn (is_in a) new before)
-  rows_all a width height end e =
-      let all : end - a.top ≡ a.height = omega (arith, e) in
-      rw all refl
+  -- all rows are the columns of the rectangle
+  pub rows_all : (a : Area) (width end : ℕ) → end ≡ a.height →
+      canvas width a.height (drawn (in_rows (at_top a) end) new before) ≡ canvas width a.height (drawn (in_columns a) new before)
+  rows_all a width end e = canvas-same width a.height (drawn (in_rows (at_top a) end) new before) (drawn (in_columns a) new before)
+      (λ x y _ low.
+      both (is_within a.left a.width x) (is_within 0 (end - 0) y) (new x y) (before x y)
+      (inside_run 0 (end - 0) y (omega arith) (omega (arith, low, e))))
+    where
+      both : (b c : Bool) (n o : Colour) → c ≡ true → cond (b && c) n o ≡ cond b n o
+      both true true n o e = refl
+      both true false n o e = cc
+      both false c n o e = refl
 
 -- The whole frame
 
@@ -102,15 +124,18 @@ pub blank : (width height n : ℕ) → n ≡ 3 * width * height → replicate n 
 blank width height n e =
     let same : 3 * width * height ≡ height * (width * 3) = omega arith in
     ap (λ (n : ℕ). replicate n 0) (e ∙ same)
-    ∙ sym (zeros (λ y. flat_map (λ x. channels black) (range_with_len 0 width)) (width * 3) 0 height (λ y. zeros (λ x. channels black) 3 0 width (λ x. refl)))
+    ∙ sym (zeros (λ y. flat_map (λ x. channels black) (range_with_len 0 width)) (width * 3) 0 height
+    (λ y. zeros (λ x. channels black) 3 0 width (λ x. refl)))
 
 on_both : (a b : Bool) (n o : Colour) → a ≡ true → b ≡ true → cond (a && b) n o ≡ n
 on_both a b n o e f = rw (e, f) refl
 
-pub drawn_whole : (new before : ℕ → ℕ → Colour) (a : Area) (width height : ℕ) → a.left ≡ 0 → a.top ≡ 0 → a.width ≡ width → a.height ≡ height →
+pub drawn_whole : (new before : ℕ → ℕ → Colour) (a : Area) (width height : ℕ) → a.left ≡ 0 → a.top ≡ 0 → a.width ≡ width →
+    a.height ≡ height →
     canvas width height (drawn (is_in a) new before) ≡ canvas width height new
 drawn_whole new before a width height left top wide high = canvas-same width height (drawn (is_in a) new before) new (λ x y h k.
-    on_both (is_within a.left a.width x) (is_within a.top a.height y) (new x y) (before x y) (inside a.left a.width x width left wide h) (inside a.top a.height y height top high k))
+    on_both (is_within a.left a.width x) (is_within a.top a.height y) (new x y) (before x y) (inside a.left a.width x width left wide h)
+    (inside a.top a.height y height top high k))
   where
     inside : (start size at end : ℕ) → start ≡ 0 → size ≡ end → at < end → is_within start size at ≡ true
     inside start size at end e f h = grind (arith, nat_tests)

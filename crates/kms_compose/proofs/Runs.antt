@@ -1,5 +1,5 @@
 -- A run of words put over a row, and opaque layers.
-use Rattle.std.proofs.Common.{◌≡◌, ◌<◌, ◌≤◌, ℕ, ◌+◌, ◌-◌, Bool, true, false, not, ◌||◌, ◌==◌, cond, List, length, take, drop, slice_index, Some, ◌⊎◌, inl, inr, ⊎_elim, arith, rules, refl, ap, ◌∙◌}
+use Rattle.std.proofs.Common.{◌≡◌, ◌<◌, ◌≤◌, ℕ, ◌+◌, ◌-◌, ◌*◌, ◌/◌, min, if◌then◌else◌, Bool, true, false, not, ◌||◌, ◌==◌, cond, List, length, take, drop, slice_index, Some, ◌⊎◌, inl, inr, ⊎_elim, arith, rules, refl, ap, ◌∙◌}
 use Rattle.std.proofs.lemmas.Bool.{and_parts, cases_lt, eqb-true, not-true}
 use Rattle.std.specs.List.{flat_map, range_with_len}
 use Rattle.std.proofs.lemmas.List.{places}
@@ -8,7 +8,7 @@ use Rattle.kms_model.specs.declared.objects.Format.{Format}
 use Rattle.kms_model.specs.declared.objects.Format.TheVariants.{Xr24, Ar24, Rg16}
 use Rattle.kms_model.specs.declared.pictures.Colour.{Colour}
 use Rattle.kms_model.specs.declared.pictures.Layer.{Layer}
-use Rattle.kms_model.specs.Frames.FrameBytes.{blended, channels, colour_of}
+use Rattle.kms_model.specs.Frames.FrameBytes.{blended, channels, colour_of, opaque}
 use Rattle.kms_compose.specs.Parts.{channel_over, colour_at, has_alpha, is_opaque, run_colour}
 use Rattle.kms_compose.proofs.Canvas.{before_run, behind_run, inside_run, range_moved}
 
@@ -65,6 +65,18 @@ opaque_over l channel word under h small =
     let parts = and_parts (l.alpha == 65535) ((l.blend == 2) || not (has_alpha l.fb.format)) h in
     opaque_pixel l.blend l.alpha (colour_of l.fb.format word).alpha (channel (colour_of l.fb.format word)) under
     (eqb-true l.alpha 65535 parts.0) (alpha_hidden l.blend l.fb.format word (l.blend == 2) refl parts.1) small
+
+-- where the alpha is 255, each blend mode is None
+pub none_same : (format : Format) (mode a f b word : ℕ) → has_alpha format ≡ false →
+    blended 2 a (colour_of format word).alpha f b ≡ blended mode a (colour_of format word).alpha f b
+none_same format mode a f b word h =
+    rw (opaque_alpha format word h)
+    (ap (λ (n : ℕ). min 255 ((n + 8355712) / opaque)) (either (mode == 0) (mode == 1) (a * 255 * f + (opaque - a * 255) * b)))
+  where
+    either : (t u : Bool) (n : ℕ) → n ≡ (if t then n else (if u then n else n))
+    either true u n = refl
+    either false true n = refl
+    either false false n = refl
 
 pub blended_same : (mode a q q' f f' b b' : ℕ) → q ≡ q' → f ≡ f' → b ≡ b' → blended mode a q f b ≡ blended mode a q' f' b'
 blended_same mode a q q' f f' b b' e e' e'' = rw (e, e', e'') refl

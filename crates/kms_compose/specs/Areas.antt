@@ -1,5 +1,5 @@
 -- Rectangles of pixels that are drawn anew, and frames as functions of the place.
-use Rattle.std.specs.Prelude.{◌≤◌, ◌≤ℤ◌, pos, ℕ, ◌+◌, Bool, false, ◌&&◌, List, Option, Some, None, if◌then◌else◌}
+use Rattle.std.specs.Prelude.{◌≡◌, ◌≤◌, ◌≤ℤ◌, pos, ℕ, ◌+◌, ◌*◌, Bool, false, ◌&&◌, List, Option, Some, None, if◌then◌else◌}
 use Rattle.std.specs.List.{flat_map, range_with_len}
 use Rattle.kms_model.specs.declared.pictures.Colour.{Colour}
 use Rattle.kms_model.specs.declared.pictures.Rect.{Rect}
@@ -14,6 +14,10 @@ canvas width height colour = flat_map (λ y. flat_map (λ x. channels (colour x 
 -- a pixel is in a rectangle
 abbrev pub is_in : Area → ℕ → ℕ → Bool
 is_in a x y = is_within a.left a.width x && is_within a.top a.height y
+
+-- a pixel is in one of the columns of a rectangle
+abbrev pub in_columns : Area → ℕ → ℕ → Bool
+in_columns a x y = is_within a.left a.width x
 
 abbrev pub in_area : Option Area → ℕ → ℕ → Bool
 in_area None x y = false
@@ -34,3 +38,11 @@ pub record IsNatural (v : Rect) : Type 0 where
   pub y : pos 0 ≤ℤ v.y
   pub w : pos 0 ≤ℤ v.w
   pub h : pos 0 ≤ℤ v.h
+
+-- of so many rows of a frame, some that begin at this byte and have so many bytes
+pub record AreRowsOf (width height start long : ℕ) : Type 0 where
+  pub above : ℕ
+  pub count : ℕ
+  pub starts : start ≡ above * (3 * width)
+  pub lasts : long ≡ count * (3 * width)
+  pub within : above + count ≤ height

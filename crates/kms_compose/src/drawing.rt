@@ -1,9 +1,9 @@
-//! Parts of a frame, drawn in place.
+//! Rows of a frame, drawn in place by one thread.
 ghost use Rattle.std.specs.Prelude.{◌≡◌, ◌<◌, ◌≤◌, ◌*◌, ◌+◌, ℕ, length, All};
 ghost use Rattle.std.specs.List.{flat_map, range_with_len};
 ghost use Rattle.kms_model.specs.declared.pictures.Colour.{Colour};
 ghost use Rattle.kms_model.specs.Frames.FrameBytes.{black, through};
-ghost use Rattle.kms_compose.specs.Areas.{canvas, drawn, FitsIn, is_in};
+ghost use Rattle.kms_compose.specs.Areas.{canvas, drawn, in_columns};
 ghost use Rattle.kms_compose.specs.Parts.{IsPart, part_pixel, parts_over};
 
 use crate::areas::Area;
@@ -68,80 +68,34 @@ fn draw_runs(
     }
 }
 
-/// Draws a row of a mode, which has so many pixels.
-pub fn draw_row(
-    parts: &[VisiblePart],
-    gamma: &Option<Gamma>,
-    y: usize,
-    count: usize,
-    out: &mut [u8],
-)
-    requires parts { All IsPart parts.now }
-    requires narrow { count < 65536 }
-    requires out { length out.old ≡ 3 * count }
-    ensures { out.new ≡ flat_map (part_pixel gamma.now parts.now y) (range_with_len 0 count) }
-{
-    let mut words = [0; RUN];
-    let mut pixels = Channels::new();
-    let row = Piece { y, left: 0, count };
-    draw_runs(parts, gamma, row, &mut words, &mut pixels, out);
-}
-
-/// Draws the pixels of a rectangle, in a frame of a mode of this width.
-pub fn draw_area(
+/// Draws the pixels of a rectangle. `rows` are those rows of a frame that it has, of `width` pixels each.
+pub fn draw_band(
     parts: &[VisiblePart],
     gamma: &Option<Gamma>,
     width: usize,
     area: &Area,
-    bytes: &mut [u8],
+    rows: &mut [u8],
 )
     requires parts { All IsPart parts.now }
     requires narrow { width < 65536 }
     requires across { area.now.left + area.now.width ≤ width }
-    requires long { (area.now.top + area.now.height) * (width * 3) ≤ length bytes.old }
     requires low { area.now.top + area.now.height < 65536 }
-    ensures { (height : ℕ) (before : ℕ → ℕ → Colour)
-        → FitsIn width height area.now → bytes.old ≡ canvas width height before
-        → bytes.new ≡ canvas width height
-        (drawn (is_in area.now)
-        (λ x y. through gamma.now (parts_over x y black parts.now)) before) }
+    requires long { length rows.old ≡ area.now.height * (width * 3) }
+    ensures { (before : ℕ → ℕ → Colour) → rows.old ≡ canvas width area.now.height before
+        → rows.new ≡ canvas width area.now.height (drawn (in_columns area.now)
+        (λ x y. through gamma.now (parts_over x (area.now.top + y) black parts.now)) before) }
 {
     let mut words = [0; RUN];
     let words = words.as_mut_slice();
     let mut pixels = Channels::new();
-    for y in area.top..area.top + area.height {
+    for y in 0..area.height {
         let start = 3 * (y * width + area.left);
-        let row = &mut bytes[start..start + 3 * area.width];
+        let row = &mut rows[start..start + 3 * area.width];
         let piece = Piece {
-            y,
+            y: area.top + y,
             left: area.left,
             count: area.width,
         };
         draw_runs(parts, gamma, piece, words, &mut pixels, row);
     }
-}
-
-/// Draws each pixel of a frame of a mode of this size.
-pub fn draw_whole(
-    parts: &[VisiblePart],
-    gamma: &Option<Gamma>,
-    width: usize,
-    height: usize,
-    bytes: &mut [u8],
-)
-    requires parts { All IsPart parts.now }
-    requires narrow { width < 65536 }
-    requires low { height < 65536 }
-    requires long { length bytes.old ≡ height * (width * 3) }
-    ensures { (before : ℕ → ℕ → Colour) → bytes.old ≡ canvas width height before
-        → bytes.new
-        ≡ canvas width height (λ x y. through gamma.now (parts_over x y black parts.now)) }
-{
-    let whole = Area {
-        left: 0,
-        top: 0,
-        width,
-        height,
-    };
-    draw_area(parts, gamma, width, &whole, bytes);
 }

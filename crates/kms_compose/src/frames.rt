@@ -9,11 +9,13 @@ ghost use Rattle.kms_compose.specs.Images.{AreImagesIn, CanShow, IsShowable, wor
 ghost use Rattle.kms_compose.specs.Areas.{canvas};
 ghost use Rattle.kms_compose.specs.Parts.{IsPart, parts_over};
 
-use crate::drawing::draw_whole;
 use crate::images::{FbImage, Images};
 use crate::parts::{VisiblePart, part_of};
+use crate::rectangles::draw_whole;
+use crate::threads::{Drawer, OneDrawer, SeveralDrawers};
 use kms_model::{Gamma, NoMemory, Picture, Seq, Shown};
 use std::alloc::Global;
+use std::thread::Threads;
 
 /// The bytes of a frame: red, green and blue of each pixel, row by row; none where the CRTC is off.
 pub type Frame = Seq<u8>;
@@ -35,21 +37,63 @@ pub fn frame(alloc: Global, picture: &Picture, images: &Images) -> Result<Frame,
     ensures things { IfOk result (λ bytes. (things : List Thing)
         → AreImagesIn things images.now → bytes ≡ frame_bytes things picture.now) }
 {
+    frame_by(&OneDrawer, alloc, picture, images)
+}
+
+/// Makes the same frame as [`frame`], and asks for the same, but `drawers` share the rows among threads, where there is enough to
+/// draw. Each thread draws as many rows, the last one what is left.
+///
+/// The only error is want of memory.
+pub fn frame_rows<R: Threads + Sync>(
+    drawers: &SeveralDrawers<'_, R>,
+    alloc: Global,
+    picture: &Picture,
+    images: &Images,
+) -> Result<Frame, NoMemory>
+    requires { CanShow images.now picture.now }
+    ensures exact { IfOk result (λ bytes. bytes ≡ frame_of (word_under images.now) picture.now) }
+
+    // Where each image is that of a framebuffer among some things, the frame is theirs.
+    ensures things { IfOk result (λ bytes. (things : List Thing)
+        → AreImagesIn things images.now → bytes ≡ frame_bytes things picture.now) }
+{
+    frame_by(drawers, alloc, picture, images)
+}
+
+/// Makes the frame of a picture.
+pub fn frame_by<D: Drawer>(
+    drawer: &D,
+    alloc: Global,
+    picture: &Picture,
+    images: &Images,
+) -> Result<Frame, NoMemory>
+    requires drawer { D.can_draw drawer.now }
+    requires images { CanShow images.now picture.now }
+    ensures exact { IfOk result (λ bytes. bytes ≡ frame_of (word_under images.now) picture.now) }
+    ensures things { IfOk result (λ bytes. (things : List Thing)
+        → AreImagesIn things images.now → bytes ≡ frame_bytes things picture.now) }
+{
     match picture {
         Picture::Off => Ok(Seq::new(alloc)),
-        Picture::On(shown) => shown_bytes(alloc, shown, images.as_slice()),
+        Picture::On(shown) => shown_bytes(drawer, alloc, shown, images.as_slice()),
     }
 }
 
 /// The frame of a CRTC that is on.
-fn shown_bytes(alloc: Global, shown: &Shown, images: &[FbImage]) -> Result<Frame, NoMemory>
-    requires { All (IsShowable shown.now.mode images.now) shown.now.layers }
+fn shown_bytes<D: Drawer>(
+    drawer: &D,
+    alloc: Global,
+    shown: &Shown,
+    images: &[FbImage],
+) -> Result<Frame, NoMemory>
+    requires drawer { D.can_draw drawer.now }
+    requires images { All (IsShowable shown.now.mode images.now) shown.now.layers }
     ensures { IfOk result (λ bytes. bytes ≡ frame_of (word_under images.now) (On shown.now)) }
 {
     let width = usize::from(shown.mode.hdisplay);
     let height = usize::from(shown.mode.vdisplay);
     let parts = parts_of(alloc, shown, images)?;
-    let bytes = parts_bytes(alloc, &parts, &shown.gamma, width, height)?;
+    let bytes = parts_bytes(drawer, alloc, &parts, &shown.gamma, width, height)?;
     Ok(Seq::from_vec(bytes))
 }
 
@@ -88,13 +132,15 @@ fn push_part<'a>(
 }
 
 /// The bytes of parts over black, through a gamma table if there is one, in a mode of this size.
-fn parts_bytes(
+fn parts_bytes<D: Drawer>(
+    drawer: &D,
     alloc: Global,
     parts: &[VisiblePart],
     gamma: &Option<Gamma>,
     width: usize,
     height: usize,
 ) -> Result<Vec<u8>, NoMemory>
+    requires drawer { D.can_draw drawer.now }
     requires parts { All IsPart parts.now }
     requires narrow { width < 65536 }
     requires low { height < 65536 }
@@ -102,12 +148,12 @@ fn parts_bytes(
         ≡ canvas width height (λ x y. through gamma.now (parts_over x y black parts.now))) }
 {
     let mut bytes = blank(alloc, width, height)?;
-    draw_whole(parts, gamma, width, height, bytes.as_mut_slice());
+    draw_whole(drawer, parts, gamma, width, height, bytes.as_mut_slice());
     Ok(bytes)
 }
 
 /// The bytes of black pixels, in a mode of this size.
-pub fn blank(alloc: Global, width: usize, height: usize) -> Result<Vec<u8>, NoMemory>
+fn blank(alloc: Global, width: usize, height: usize) -> Result<Vec<u8>, NoMemory>
     requires narrow { width < 65536 }
     requires low { height < 65536 }
     ensures { IfOk result (λ bytes. bytes.items ≡ canvas width height (λ x y. black)) }

@@ -9,14 +9,15 @@ mod frames;
 mod images;
 mod parts;
 mod recomposing;
+mod rectangles;
 mod rows;
 mod sameness;
 mod sources;
 mod tables;
 mod threads;
 
-pub use frames::{Frame, frame};
+pub use frames::{Frame, frame, frame_rows};
 pub use images::{FbImage, Images};
-pub use recomposing::{recompose, recompose_kept};
+pub use recomposing::{recompose, recompose_kept, recompose_rows};
 pub use sameness::{is_same_layer, is_same_size, is_same_table};
-pub use threads::frame_rows;
+pub use threads::{SeveralDrawers, Share};

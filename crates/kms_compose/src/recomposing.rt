@@ -13,14 +13,16 @@ ghost use Rattle.kms_compose.specs.Parts.{IsPart, parts_over};
 
 use crate::areas::area_of;
 use crate::changes::changes;
-use crate::drawing::{draw_area, draw_whole};
-use crate::frames::{Frame, frame as whole_frame, parts_of};
+use crate::frames::{Frame, frame_by, parts_of};
 use crate::images::{FbImage, Images};
 use crate::parts::VisiblePart;
+use crate::rectangles::{draw_area, draw_whole};
 use crate::sameness::{is_same_size, is_same_table};
+use crate::threads::{Drawer, OneDrawer, SeveralDrawers};
 use kms_model::{Gamma, Layer, Mode, NoMemory, Picture, Seq, Shown};
 use std::alloc::Global;
 use std::mem;
+use std::thread::Threads;
 
 /// Makes the frame of a picture of that of another one: what the layers cover that left, came, or changed in framebuffer,
 /// source, destination, alpha, blend mode or place in the order is drawn anew, and the rest stays. Where the gamma table
@@ -76,44 +78,94 @@ pub fn recompose_kept(
     ensures kept { IfOk result (λ count. take count frame.new ≡ take count frame.old) }
     ensures unchanged { OnErr result (frame.new ≡ frame.old) }
 {
+    recompose_by(&OneDrawer, alloc, frame, old, new, images)
+}
+
+/// Does what [`recompose_kept`] does, but `drawers` share the rows of each rectangle among threads, where there is enough to draw.
+/// Each thread draws as many rows, the last one what is left.
+pub fn recompose_rows<R: Threads + Sync>(
+    drawers: &SeveralDrawers<'_, R>,
+    alloc: Global,
+    frame: &mut Frame,
+    old: &Picture,
+    new: &Picture,
+    images: &Images,
+) -> Result<usize, NoMemory>
+    requires old { CanShow images.now old.now }
+    requires new { CanShow images.now new.now }
+    requires frame { frame.old ≡ frame_of (word_under images.now) old.now }
+    ensures exact { OnOk result (frame.new ≡ frame_of (word_under images.now) new.now) }
+
+    // Where each image is that of a framebuffer among some things, the frame is theirs.
+    ensures things { OnOk result ((things : List Thing)
+        → AreImagesIn things images.now → frame.new ≡ frame_bytes things new.now) }
+    ensures kept { IfOk result (λ count. take count frame.new ≡ take count frame.old) }
+    ensures unchanged { OnErr result (frame.new ≡ frame.old) }
+{
+    recompose_by(drawers, alloc, frame, old, new, images)
+}
+
+/// Makes the frame of a picture of that of another one, and tells how many bytes at its front stay.
+fn recompose_by<D: Drawer>(
+    drawer: &D,
+    alloc: Global,
+    frame: &mut Frame,
+    old: &Picture,
+    new: &Picture,
+    images: &Images,
+) -> Result<usize, NoMemory>
+    requires drawer { D.can_draw drawer.now }
+    requires old { CanShow images.now old.now }
+    requires new { CanShow images.now new.now }
+    requires frame { frame.old ≡ frame_of (word_under images.now) old.now }
+    ensures exact { OnOk result (frame.new ≡ frame_of (word_under images.now) new.now) }
+    ensures things { OnOk result ((things : List Thing)
+        → AreImagesIn things images.now → frame.new ≡ frame_bytes things new.now) }
+    ensures kept { IfOk result (λ count. take count frame.new ≡ take count frame.old) }
+    ensures unchanged { OnErr result (frame.new ≡ frame.old) }
+{
     match (old, new) {
         (Picture::On(before), Picture::On(after)) => {
             if is_same_size(&before.mode, &after.mode) {
-                redraw(alloc, frame, before, after, images.as_slice())
+                redraw(drawer, alloc, frame, before, after, images.as_slice())
             } else {
-                remake(alloc, frame, new, images)
+                remake(drawer, alloc, frame, new, images)
             }
         }
-        _ => remake(alloc, frame, new, images),
+        _ => remake(drawer, alloc, frame, new, images),
     }
 }
 
 /// Makes the whole frame of a picture, which keeps no byte of another one.
-fn remake(
+fn remake<D: Drawer>(
+    drawer: &D,
     alloc: Global,
     frame: &mut Frame,
     picture: &Picture,
     images: &Images,
 ) -> Result<usize, NoMemory>
-    requires { CanShow images.now picture.now }
+    requires drawer { D.can_draw drawer.now }
+    requires images { CanShow images.now picture.now }
     ensures exact { OnOk result (frame.new ≡ frame_of (word_under images.now) picture.now) }
     ensures kept { IfOk result (λ count. take count frame.new ≡ take count frame.old) }
     ensures unchanged { OnErr result (frame.new ≡ frame.old) }
 {
-    *frame = whole_frame(alloc, picture, images)?;
+    *frame = frame_by(drawer, alloc, picture, images)?;
     Ok(0)
 }
 
 /// Makes the frame of a picture of that of another one in a mode of the same size, and tells how many bytes at its front stay:
 /// what changed layers cover is drawn anew, or each pixel where the gamma tables differ. All memory is taken before
 /// a byte changes.
-fn redraw(
+fn redraw<D: Drawer>(
+    drawer: &D,
     alloc: Global,
     frame: &mut Frame,
     old: &Shown,
     new: &Shown,
     images: &[FbImage],
 ) -> Result<usize, NoMemory>
+    requires drawer { D.can_draw drawer.now }
     requires size { IsSameSize old.now.mode new.now.mode }
     requires old { All (IsShowable old.now.mode images.now) old.now.layers }
     requires new { All (IsShowable new.now.mode images.now) new.now.layers }
@@ -127,16 +179,23 @@ fn redraw(
     let parts = parts_of(alloc, new, images)?;
     if is_same_table(&old.gamma, &new.gamma) {
         let changed = changes(alloc, old.layers.as_slice(), new.layers.as_slice())?;
-        draw_changed(alloc, frame, &parts, new, changed.as_slice());
+        draw_changed(drawer, alloc, frame, &parts, new, changed.as_slice());
         Ok(3 * width * first_row(changed.as_slice(), height))
     } else {
-        draw_each(alloc, frame, &parts, new);
+        draw_each(drawer, alloc, frame, &parts, new);
         Ok(0)
     }
 }
 
 /// Draws each pixel of a frame of a picture's mode.
-fn draw_each(alloc: Global, frame: &mut Frame, parts: &[VisiblePart], shown: &Shown)
+fn draw_each<D: Drawer>(
+    drawer: &D,
+    alloc: Global,
+    frame: &mut Frame,
+    parts: &[VisiblePart],
+    shown: &Shown,
+)
+    requires drawer { D.can_draw drawer.now }
     requires parts { All IsPart parts.now }
     requires long { length frame.old ≡ shown.now.mode.vdisplay * (shown.now.mode.hdisplay * 3) }
     ensures { (before : ℕ → ℕ → Colour)
@@ -147,18 +206,27 @@ fn draw_each(alloc: Global, frame: &mut Frame, parts: &[VisiblePart], shown: &Sh
     let width = usize::from(shown.mode.hdisplay);
     let height = usize::from(shown.mode.vdisplay);
     let mut bytes = mem::replace(frame, Seq::new(alloc)).into_vec();
-    draw_whole(parts, &shown.gamma, width, height, bytes.as_mut_slice());
+    draw_whole(
+        drawer,
+        parts,
+        &shown.gamma,
+        width,
+        height,
+        bytes.as_mut_slice(),
+    );
     *frame = Seq::from_vec(bytes);
 }
 
 /// Draws the pixels that some layers cover, in a frame of a picture's mode.
-fn draw_changed(
+fn draw_changed<D: Drawer>(
+    drawer: &D,
     alloc: Global,
     frame: &mut Frame,
     parts: &[VisiblePart],
     shown: &Shown,
     changed: &[Layer],
 )
+    requires drawer { D.can_draw drawer.now }
     requires parts { All IsPart parts.now }
     requires changed { All (FitsMode shown.now.mode) changed.now }
     requires long { length frame.old ≡ shown.now.mode.vdisplay * (shown.now.mode.hdisplay * 3) }
@@ -172,6 +240,7 @@ fn draw_changed(
 {
     let mut bytes = mem::replace(frame, Seq::new(alloc)).into_vec();
     draw_layers(
+        drawer,
         parts,
         &shown.gamma,
         &shown.mode,
@@ -182,13 +251,15 @@ fn draw_changed(
 }
 
 /// Draws the pixels that some layers cover, in a frame of a mode.
-fn draw_layers(
+fn draw_layers<D: Drawer>(
+    drawer: &D,
     parts: &[VisiblePart],
     gamma: &Option<Gamma>,
     mode: &Mode,
     layers: &[Layer],
     bytes: &mut [u8],
 )
+    requires drawer { D.can_draw drawer.now }
     requires parts { All IsPart parts.now }
     requires layers { All (FitsMode mode.now) layers.now }
     requires narrow { mode.now.hdisplay < 65536 }
@@ -201,18 +272,20 @@ fn draw_layers(
         (λ x y. through gamma.now (parts_over x y black parts.now)) before) }
 {
     for layer in layers {
-        draw_layer(parts, gamma, mode, layer, bytes);
+        draw_layer(drawer, parts, gamma, mode, layer, bytes);
     }
 }
 
 /// Draws the pixels that a layer covers, in a frame of a mode.
-fn draw_layer(
+fn draw_layer<D: Drawer>(
+    drawer: &D,
     parts: &[VisiblePart],
     gamma: &Option<Gamma>,
     mode: &Mode,
     layer: &Layer,
     bytes: &mut [u8],
 )
+    requires drawer { D.can_draw drawer.now }
     requires parts { All IsPart parts.now }
     requires layer { FitsMode mode.now layer.now }
     requires narrow { mode.now.hdisplay < 65536 }
@@ -225,7 +298,8 @@ fn draw_layer(
         (λ x y. through gamma.now (parts_over x y black parts.now)) before) }
 {
     if let Some(area) = area_of(layer) {
-        draw_area(parts, gamma, usize::from(mode.hdisplay), &area, bytes);
+        let width = usize::from(mode.hdisplay);
+        draw_area(drawer, parts, gamma, width, &area, bytes);
     }
 }
 

@@ -1,7 +1,7 @@
 //! Rows of a frame.
 ghost use Rattle.std.specs.Prelude.{◌≡◌, ◌<◌, ◌≤◌, ◌+◌, ◌-◌, ◌*◌, ◌&&◌, ◌==◌, ◌||◌, false, ℕ, List, length, slice_index, EachIndex, All};
 ghost use Rattle.std.specs.List.{flat_map, range_with_len};
-ghost use Rattle.kms_model.specs.Frames.FrameBytes.{black, channels, colour_of, mixed};
+ghost use Rattle.kms_model.specs.Frames.FrameBytes.{black, blended, channels, colour_of, mixed};
 ghost use Rattle.kms_compose.specs.Parts.{HasColumns, IsPart, channel_over, colour_at, shown_at, has_alpha, is_opaque, part_colour, parts_over, run_colour};
 
 use crate::channels::{Alpha, Blue, Channel, Green, Red, unpack};
@@ -59,6 +59,22 @@ fn has_alpha(format: Format) -> bool
     }
 }
 
+/// The blend mode that a layer's pixels are blended in: None where its format has no alpha, since each mode gives the same there,
+/// and None takes least.
+fn blend_mode(layer: &Layer) -> u32
+    requires { layer.now.blend ≤ 2 }
+    ensures within { result ≤ 2 }
+    ensures same { (a f b word : ℕ)
+        → blended result a (colour_of layer.now.fb.format word).alpha f b
+        ≡ blended layer.now.blend a (colour_of layer.now.fb.format word).alpha f b }
+{
+    if has_alpha(layer.fb.format) {
+        layer.blend
+    } else {
+        2
+    }
+}
+
 /// Puts a channel of words over that of a row, from `left` on. `alpha` has the words' alpha, and is not read where the
 /// layer is opaque; `own` is room for as many numbers.
 fn put_channel<C: Channel>(
@@ -88,7 +104,7 @@ fn put_channel<C: Channel>(
         let alpha = &alpha[..words.len()];
         let own = &mut own[..words.len()];
         unpack::<C>(layer.fb.format, words, own);
-        blend_row(layer.blend, layer.alpha, alpha, own, shown);
+        blend_row(blend_mode(layer), layer.alpha, alpha, own, shown);
     }
 }
 

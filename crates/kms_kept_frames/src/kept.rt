@@ -1,14 +1,15 @@
 //! Frames that are kept.
 ghost use Rattle.std.specs.Prelude.{◌≡◌, ◌⊎◌, ◌↔◌, IfOk, IsTrue, OnOk};
+ghost use Rattle.std.specs.Thread.{IsSync};
 ghost use Rattle.sha2.specs.Sha256.{sha256};
 ghost use Rattle.kms_compose.specs.Images.{CanShow};
 ghost use Rattle.kms_kept_frames.specs.Screens.{AreKeptFramesOver, AreOfOneSizeAndTable, IsDrawnOver, IsDrawnOf, IsRenewed};
 
 use crate::digests::{WORTH_A_THREAD, digest_of_frame};
 use crate::fronts::Fronts;
-use crate::hands::{Hands, OneThread};
+use crate::hands::{Hands, OneOfTwo, OneThread, Recomposes};
 use crate::screen::Screen;
-use kms_compose::{Frame, Images, is_same_layer, is_same_size, is_same_table, recompose_kept};
+use kms_compose::{Frame, Images, is_same_layer, is_same_size, is_same_table};
 use kms_model::{Layer, Mode, NoMemory, Picture, Seq, Shown};
 use std::alloc::Global;
 use std::thread::{Threads, join_mut};
@@ -90,56 +91,62 @@ pub fn is_same_size_and_table(one: &Picture, other: &Picture) -> bool
 }
 
 /// Changes a frame to that of another picture where these differ. The states of its digest before the first change stay.
-fn change(
+fn change<H: Recomposes>(
+    hands: &H,
     alloc: Global,
     drawn: &mut Drawn,
     picture: &Picture,
     images: &Images,
 ) -> Result<(), NoMemory>
+    requires hands { H.can_work hands.now }
     requires drawn { IsDrawnOver images.now drawn.old }
     requires can { CanShow images.now picture.now }
     ensures { OnOk result (IsDrawnOver images.now drawn.new × IsDrawnOf picture.now drawn.new) }
 {
-    let count = recompose_kept(alloc, &mut drawn.frame, &drawn.picture, picture, images)?;
+    let count = hands.recompose(alloc, &mut drawn.frame, &drawn.picture, picture, images)?;
     drawn.picture = *picture;
     drawn.fronts.keep(count);
     Ok(())
 }
 
 /// Changes a frame to that of another picture, and gives its digest.
-fn renewed(
+fn renew_drawn<H: Recomposes>(
+    hands: &H,
     alloc: Global,
     drawn: &mut Drawn,
     picture: &Picture,
     images: &Images,
 ) -> Result<[u8; 32], NoMemory>
+    requires hands { H.can_work hands.now }
     requires drawn { IsDrawnOver images.now drawn.old }
     requires can { CanShow images.now picture.now }
     ensures { IfOk result (λ digest. IsDrawnOver images.now drawn.new
         × IsDrawnOf picture.now drawn.new × (digest ≡ sha256 drawn.new.frame)) }
 {
-    change(alloc, drawn, picture, images)?;
+    change(hands, alloc, drawn, picture, images)?;
     Ok(digest_of_frame(drawn.frame.as_slice(), &mut drawn.fronts))
 }
 
 /// Changes a frame to that of another picture, with its digest.
-pub fn renew(
+pub fn renew<H: Recomposes>(
+    hands: &H,
     alloc: Global,
     kept: &mut KeptFrame,
     picture: &Picture,
     images: &Images,
 ) -> Result<(), NoMemory>
+    requires hands { H.can_work hands.now }
     requires drawn { IsDrawnOver images.now kept.old.drawn }
     requires can { CanShow images.now picture.now }
     ensures { OnOk result (IsRenewed images.now picture.now kept.new) }
 {
-    kept.digest = renewed(alloc, &mut kept.drawn, picture, images)?;
+    kept.digest = renew_drawn(hands, alloc, &mut kept.drawn, picture, images)?;
     Ok(())
 }
 
 /// Changes the first frame of a screen to that of a picture, and the second to that of the next one, with their digests: side by
-/// side where both are large.
-pub fn renew_both<R: Threads>(
+/// side where both are large, each with half of the threads for its rows.
+pub fn renew_both<R: Threads + Sync>(
     rt: &R,
     alloc: Global,
     screen: Screen,
@@ -147,6 +154,7 @@ pub fn renew_both<R: Threads>(
     next: &Picture,
     images: &Images,
 ) -> Result<Screen, NoMemory>
+    requires hands { IsSync R.row }
     requires screen { AreKeptFramesOver images.now screen }
     requires picture { CanShow images.now picture.now }
     requires next { CanShow images.now next.now }
@@ -162,21 +170,21 @@ pub fn renew_both<R: Threads>(
         mut second,
     } = screen;
     let mut change_first = || -> Result<(), NoMemory>
-        requires { IsDrawnOver images.now first.drawn × CanShow images.now picture.now }
+        requires { IsSync R.row × IsDrawnOver images.now first.drawn × CanShow images.now picture.now }
         ensures { OnOk result (IsRenewed images.entry.now picture.entry.now first.exit) }
-    { renew(alloc, &mut first, picture, images) };
+    { renew(&OneOfTwo { rt }, alloc, &mut first, picture, images) };
     let mut change_second = || -> Result<(), NoMemory>
-        requires { IsDrawnOver images.now second.drawn × CanShow images.now next.now }
+        requires { IsSync R.row × IsDrawnOver images.now second.drawn × CanShow images.now next.now }
         ensures { OnOk result (IsRenewed images.entry.now next.entry.now second.exit) }
-    { renew(alloc, &mut second, next, images) };
+    { renew(&OneOfTwo { rt }, alloc, &mut second, next, images) };
     let (of_first, of_second) = join_mut(rt, &mut change_first, &mut change_second);
     of_first?;
     of_second?;
     Ok(Screen { first, second })
 }
 
-/// The frame of a picture, made anew.
-fn made<H: Hands>(
+/// Draws the frame of a picture anew.
+fn draw<H: Hands>(
     hands: &H,
     alloc: Global,
     picture: &Picture,
@@ -194,9 +202,9 @@ fn made<H: Hands>(
     })
 }
 
-/// The frame of a picture. Where the frame given has its size and its gamma table, only what differs is drawn; else
+/// Draws the frame of a picture. Where the frame given has its size and its gamma table, only what differs is drawn. Else
 /// that one is given up first, and all is drawn.
-pub fn redrawn<H: Hands>(
+pub fn redraw<H: Hands>(
     hands: &H,
     alloc: Global,
     mut drawn: Drawn,
@@ -209,11 +217,11 @@ pub fn redrawn<H: Hands>(
     ensures { IfOk result (λ d. IsDrawnOver images.now d × IsDrawnOf picture.now d) }
 {
     if is_same_size_and_table(&drawn.picture, picture) {
-        change(alloc, &mut drawn, picture, images)?;
+        change(hands, alloc, &mut drawn, picture, images)?;
         return Ok(drawn);
     }
     drop(drawn);
-    made(hands, alloc, picture, images)
+    draw(hands, alloc, picture, images)
 }
 
 /// A copy of bytes.

@@ -11,7 +11,7 @@ mod strands;
 
 pub use digests::digest_of;
 pub use fronts::Fronts;
-pub use hands::{Hands, OneThread, SeveralThreads};
+pub use hands::{Hands, OneOfTwo, OneThread, Recomposes, SeveralThreads};
 pub use kept::{Drawn, KeptFrame, is_same};
 pub use screen::Screen;
 pub use strands::{Strand, is_lit, next_other, strands_of};

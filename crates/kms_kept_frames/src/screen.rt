@@ -8,7 +8,7 @@ ghost use Rattle.kms_kept_frames.specs.Screens.{AreFronts, Has, IsDrawnOver, IsK
 use crate::digests::{digest_of, digest_of_frame};
 use crate::fronts::Fronts;
 use crate::hands::Hands;
-use crate::kept::{Drawn, KeptFrame, at_hand, is_same, is_same_size_and_table, redrawn};
+use crate::kept::{Drawn, KeptFrame, at_hand, is_same, is_same_size_and_table, redraw};
 use kms_compose::Images;
 use kms_model::{NoMemory, Picture, Seq};
 use std::alloc::Global;
@@ -37,8 +37,8 @@ fn off(alloc: Global) -> KeptFrame
     }
 }
 
-/// A frame with its digest.
-fn hashed(drawn: Drawn) -> KeptFrame
+/// Hashes a frame, which is kept with its digest.
+fn hash(drawn: Drawn) -> KeptFrame
     requires { AreFronts drawn.fronts drawn.frame }
     ensures kept { (images : List FbImage) → IsDrawnOver images drawn
         → IsKeptFrameOver images result }
@@ -60,8 +60,8 @@ fn hashed(drawn: Drawn) -> KeptFrame
     }
 }
 
-/// Two frames with their digests.
-fn both_hashed<H: Hands>(hands: &H, mut one: Drawn, mut other: Drawn) -> Screen
+/// Hashes two frames, which are kept with their digests.
+fn hash_both<H: Hands>(hands: &H, mut one: Drawn, mut other: Drawn) -> Screen
     requires hands { H.can_work hands.now }
     requires one { AreFronts one.fronts one.frame }
     requires other { AreFronts other.fronts other.frame }
@@ -147,9 +147,9 @@ impl Screen {
         ensures { IfOk result (λ s. AreKeptFramesOver images.now s × Has s picture.now) }
     {
         let Screen { first, second } = self;
-        let drawn = redrawn(hands, alloc, first.drawn, picture, images)?;
+        let drawn = redraw(hands, alloc, first.drawn, picture, images)?;
         Ok(Screen {
-            first: hashed(drawn),
+            first: hash(drawn),
             second,
         })
     }
@@ -176,10 +176,10 @@ impl Screen {
             return hands.renew(alloc, self, picture, next, images);
         }
         let Screen { first, second } = self;
-        let one = redrawn(hands, alloc, first.drawn, picture, images)?;
+        let one = redraw(hands, alloc, first.drawn, picture, images)?;
         let hand = at_hand(alloc, second.drawn, &one, next)?;
-        let other = redrawn(hands, alloc, hand, next, images)?;
-        Ok(both_hashed(hands, one, other))
+        let other = redraw(hands, alloc, hand, next, images)?;
+        Ok(hash_both(hands, one, other))
     }
 
     /// A screen that has this picture; one that has it already stays as it is. Else its frame is made of the kept one that goes,

@@ -3,7 +3,7 @@ use Rattle.std.proofs.lemmas.List.{take_at}
 use Rattle.kms_compose.proofs.recomposing.draw_each.Goals as goal
 
 pub returns : goal.returns
-returns c =
+returns g c =
     let width : c.from-width.result ≡ c.args.shown.now.mode.hdisplay = search rules in
     let height : c.from-height.result ≡ c.args.shown.now.mode.vdisplay = search rules in
     rw (← width, ← height) (λ before now.

@@ -9,13 +9,14 @@ use Rattle.kms_compose.proofs.Recomposed.{layer_more, layers_none}
 use Rattle.kms_compose.proofs.recomposing.draw_layers.Goals as goal
 
 pub loop-layer-init : goal.loop-layer-init
-loop-layer-init c = record {
+loop-layer-init g c = record {
   size = omega arith;
-  drawn = λ before now. now ∙ layers_none (λ x y. through c.args.gamma.now (parts_over x y black c.args.parts.now)) before c.args.mode.now.hdisplay c.args.mode.now.vdisplay;
+  drawn = λ before now. now ∙ layers_none (λ x y. through c.args.gamma.now (parts_over x y black c.args.parts.now)) before
+      c.args.mode.now.hdisplay c.args.mode.now.vdisplay;
 }
 
 pub loop-layer-preserved : goal.loop-layer-preserved
-loop-layer-preserved c = record {
+loop-layer-preserved g c = record {
   size = omega arith;
   drawn = λ before now.
       let width : ℕ = c.args.mode.now.hdisplay in
@@ -24,11 +25,13 @@ loop-layer-preserved c = record {
       let so_far : List Layer = take c.loop-layer.layer-index c.args.layers.now in
       c.draw_layer.ensures (drawn (covered_by so_far) new before) (c.loop-layer.invariant.drawn before now)
       ∙ layer_more new before width height so_far (slice_index_or c.args.layers.now c.loop-layer.layer-index _)
-      ∙ ap (λ (ls : List Layer). canvas width height (drawn (covered_by ls) new before)) (sym (take_more c.args.layers.now c.loop-layer.layer-index _ (omega arith)));
+      ∙ ap (λ (ls : List Layer). canvas width height (drawn (covered_by ls) new before))
+      (sym (take_more c.args.layers.now c.loop-layer.layer-index _ (omega arith)));
 }
 
 pub returns : goal.returns
-returns c = λ before now.
+returns g c = λ before now.
     let new = λ (x y : ℕ). through c.args.gamma.now (parts_over x y black c.args.parts.now) in
     c.loop-layer.invariant.drawn before now
-    ∙ ap (λ (ls : List Layer). canvas c.args.mode.now.hdisplay c.args.mode.now.vdisplay (drawn (covered_by ls) new before)) (take_all c.loop-layer.layer-index c.args.layers.now (omega arith))
+    ∙ ap (λ (ls : List Layer). canvas c.args.mode.now.hdisplay c.args.mode.now.vdisplay (drawn (covered_by ls) new before))
+    (take_all c.loop-layer.layer-index c.args.layers.now (omega arith))

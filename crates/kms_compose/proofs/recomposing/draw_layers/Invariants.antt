@@ -8,8 +8,9 @@ use Rattle.kms_compose.specs.Parts.{parts_over}
 use Rattle.kms_compose.proofs.recomposing.draw_layers.Given as goal
 
 abbrev pub invariant-loop-layer : goal.invariant-loop-layer
-invariant-loop-layer l = record {
+invariant-loop-layer g l = record {
   size : length l.bytes ≡ length l.fn.bytes;
   drawn : (before : ℕ → ℕ → Colour) → l.fn.bytes ≡ canvas l.mode.hdisplay l.mode.vdisplay before
-      → l.bytes ≡ canvas l.mode.hdisplay l.mode.vdisplay (drawn (covered_by (take l.layer-index l.layers)) (λ x y. through l.gamma (parts_over x y black l.parts)) before);
+      → l.bytes ≡ canvas l.mode.hdisplay l.mode.vdisplay
+      (drawn (covered_by (take l.layer-index l.layers)) (λ x y. through l.gamma (parts_over x y black l.parts)) before);
 }

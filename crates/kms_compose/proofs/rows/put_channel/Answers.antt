@@ -30,8 +30,9 @@ returns-else-is_opaque g c = λ x h.
     c.requires.within
     (λ k below.
     c.blend_row.ensures.places k (omega arith)
-    ∙ blended_same c.args.layer.now.blend c.args.layer.now.alpha _ _ _ _ _ _
+    ∙ blended_same c.blend_mode.result c.args.layer.now.alpha _ _ _ _ _ _
     (front_place c.args.alpha.now _ k below ∙ c.requires.alphas shown_through k below)
     (c.unpack-else-is_opaque.ensures k (omega (arith, below, size)))
-    (part_place c.args.lower.now c.args.left (c.args.left + length c.args.words.now - c.args.left) k (omega arith)))
+    (part_place c.args.lower.now c.args.left (c.args.left + length c.args.words.now - c.args.left) k (omega arith))
+    ∙ c.blend_mode.ensures.same _ _ _ (slice_index c.args.words.now k))
     x
