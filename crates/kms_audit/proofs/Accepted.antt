@@ -57,29 +57,13 @@ NotesKind r client c old new =
 
 kind_of_entry : (r : Report) (client : ℕ) (c : Command) (old new : Walk) → IsNoted r client c old new → NotesKind r client c old new
 kind_of_entry r client (command.Atomic q) old new n = inl (q, (refl, n))
-kind_of_entry r client (command.Buffer label width height format pattern) old new n = inr (refl, n)
-kind_of_entry r client (command.AddFb label buffer) old new n = inr (refl, n)
-kind_of_entry r client (command.Mode label m) old new n = inr (refl, n)
-kind_of_entry r client (command.Blob label bytes) old new n = inr (refl, n)
-kind_of_entry r client (command.Destroy label) old new n = inr (refl, n)
-kind_of_entry r client (command.CloseFb label) old new n = inr (refl, n)
-kind_of_entry r client (command.Fence label) old new n = inr (refl, n)
-kind_of_entry r client (command.Signal label) old new n = inr (refl, n)
-kind_of_entry r client command.Wait old new n = inr (refl, n)
+kind_of_entry r client c old new n = inr (refl, n)
 
 -- a command that is no request shows nothing
 shows_nothing : (t : Topology) (crtc : ℕ) (w : World) (client : ℕ) (c : Command) → request_in (Some c) ≡ None
     → shown_in t crtc w client (Some c) ≡ []
 shows_nothing t crtc w client (command.Atomic q) e = absurd cc
-shows_nothing t crtc w client (command.Buffer label width height format pattern) e = refl
-shows_nothing t crtc w client (command.AddFb label buffer) e = refl
-shows_nothing t crtc w client (command.Mode label m) e = refl
-shows_nothing t crtc w client (command.Blob label bytes) e = refl
-shows_nothing t crtc w client (command.Destroy label) e = refl
-shows_nothing t crtc w client (command.CloseFb label) e = refl
-shows_nothing t crtc w client (command.Fence label) e = refl
-shows_nothing t crtc w client (command.Signal label) e = refl
-shows_nothing t crtc w client command.Wait e = refl
+shows_nothing t crtc w client c e = refl
 
 -- a commit shows its picture on each CRTC that it names
 shows_named : (t : Topology) (crtc : ℕ) (w : World) (client : ℕ) (q : Request) → verdict t w q ≡ None → is_test q.flags ≡ false

@@ -26,20 +26,18 @@ use Rattle.kms_model.specs.Script.Words.{dec, dec_at, end_at, field_at, from, is
 
 -- Names, one more
 
+one_more : (b : Bool) (n m : Name) (ns more : List Name) → length more ≤ length ns + 1
+    → length (if b then m ∷ ns else n ∷ more) ≤ length (n ∷ ns) + 1
+one_more true n m ns more few = omega arith
+one_more false n m ns more few = omega (arith, few)
+
 said_one : (word : List ℕ) (ns : List Name) → length (said word ns) ≤ length ns + 1
 said_one word [] = omega arith
-said_one word (n ∷ ns) = by_word (bytes_eq word n.word) (said_one word ns) where
-  by_word : (b : Bool) → length (said word ns) ≤ length ns + 1 → length (if b then n ∷ ns else n ∷ said word ns) ≤ length (n ∷ ns) + 1
-  by_word true more = omega arith
-  by_word false more = omega (arith, more)
+said_one word (n ∷ ns) = one_more (bytes_eq word n.word) n n ns (said word ns) (said_one word ns)
 
 made_one : (word : List ℕ) (ns : List Name) → length (made word ns) ≤ length ns + 1
 made_one word [] = omega arith
-made_one word (n ∷ ns) = by_word (bytes_eq word n.word) (made_one word ns) where
-  by_word : (b : Bool) → length (made word ns) ≤ length ns + 1
-      → length (if b then record { word = n.word; is_made = true } ∷ ns else n ∷ made word ns) ≤ length (n ∷ ns) + 1
-  by_word true more = omega arith
-  by_word false more = omega (arith, more)
+made_one word (n ∷ ns) = one_more (bytes_eq word n.word) n (record { word = n.word; is_made = true }) ns (made word ns) (made_one word ns)
 
 saying_one : (word : List ℕ) (names : Names) → length (saying word names).all ≤ length names.all + 1
 unfolding saying
@@ -335,15 +333,7 @@ script_few (Some d) s is e =
 
 command_light : (c : Command) → IsFitCommand c → weight c ≤ 512
 command_light (command.Atomic q) fit = omega (arith, fit)
-command_light (command.Buffer label width height format pattern) fit = omega arith
-command_light (command.AddFb label buffer) fit = omega arith
-command_light (command.Mode label m) fit = omega arith
-command_light (command.Blob label bytes) fit = omega arith
-command_light (command.Destroy label) fit = omega arith
-command_light (command.CloseFb label) fit = omega arith
-command_light (command.Fence label) fit = omega arith
-command_light (command.Signal label) fit = omega arith
-command_light command.Wait fit = omega arith
+command_light c fit = omega arith
 
 client_light : (cs : List Command) → AllByRecursion IsFitCommand cs → heavy cs ≤ 512 * length cs
 client_light [] fit = omega arith

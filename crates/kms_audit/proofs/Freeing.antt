@@ -11,7 +11,7 @@ use Rattle.std.proofs.lemmas.Option.{some_pair_parts}
 use Rattle.std.specs.Prelude.{◌&&◌, ◌==◌, cond, not, if◌then◌else◌}
 use Rattle.std.specs.Str.{bytes_eq}
 use Rattle.kms_audit.proofs.Firsts.{off-done, off-here, off-step}
-use Rattle.kms_audit.proofs.Indices.{any-push, or_added, same_number}
+use Rattle.kms_audit.proofs.Indices.{keys-more, same_number}
 use Rattle.kms_audit.specs.Judged.{IsBehind}
 use Rattle.kms_model.specs.declared.reports.Report.{Report}
 use Rattle.kms_model.specs.declared.scripts.Script.{Script}
@@ -36,11 +36,9 @@ AreNamed lines m = (id : ℕ) → sorted.contains nat_cmp m id ≡ list_any (λ 
 pub named-more : (lines : List FreedFields) (x : FreedFields) (old new : BTreeSet ℕ) → AreNamed lines old
     → ((id : ℕ) → sorted.contains nat_cmp new id ≡ cond (is_at (nat_cmp x.1) id) true (sorted.contains nat_cmp old id))
     → AreNamed (lines ++ x ∷ []) new
-named-more lines x old new are set id =
-    set id
-    ∙ (ap (λ b. cond b true (sorted.contains nat_cmp old id)) (same_number x.1 id)
-    ∙ (ap (cond (x.1 == id) true) (are id)
-    ∙ (or_added (x.1 == id) (list_any (λ (y : FreedFields). y.1 == id) lines) ∙ sym (any-push (λ (y : FreedFields). y.1 == id) lines x))))
+named-more lines x old new =
+    keys-more nat_cmp (λ k q. k == q) same_number (λ (y : FreedFields). y.1) lines x
+    (sorted.contains nat_cmp old) (sorted.contains nat_cmp new)
 
 module _ (s : Script) (r : Report) (d : Device) (behind : IsBehind s r d) (before : List FreedFields) (x : FreedFields) (m : BTreeSet ℕ)
     (are : AreNamed before m) where

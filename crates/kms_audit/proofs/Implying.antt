@@ -180,39 +180,15 @@ devices_verdict : (w : World) (t : Script) (q : Request) (a : Reply) (client : �
 devices_verdict w t q a client (Some n) b is test e = refused a e where
   refused : (x : Reply) → same_reply x (reply.Refused (record { 0 = n })) ≡ true → IsVerdictOnRequest t w q x
   refused (reply.Refused m) f = is ∙ ap Some (sym (eqb-true m.0 n f))
-  refused (reply.Made m) f = absurd cc
-  refused reply.Done f = absurd cc
-  refused (reply.Commit m) f = absurd cc
-  refused reply.Tested f = absurd cc
-  refused (reply.Space m) f = absurd cc
-  refused (reply.Busy x m) f = absurd cc
-  refused (reply.Denied m) f = absurd cc
-  refused (reply.Event x) f = absurd cc
-  refused reply.NoEvent f = absurd cc
+  refused x f = absurd cc
 devices_verdict w t q a client None true is test e = tested a (rw test at e) where
   tested : (x : Reply) → same_reply x reply.Tested ≡ true → IsVerdictOnRequest t w q x
   tested reply.Tested f = is
-  tested (reply.Refused m) f = absurd cc
-  tested (reply.Made m) f = absurd cc
-  tested reply.Done f = absurd cc
-  tested (reply.Commit m) f = absurd cc
-  tested (reply.Space m) f = absurd cc
-  tested (reply.Busy x m) f = absurd cc
-  tested (reply.Denied m) f = absurd cc
-  tested (reply.Event x) f = absurd cc
-  tested reply.NoEvent f = absurd cc
+  tested x f = absurd cc
 devices_verdict w t q a client None false is test e = committed_as a (rw test at e) where
   committed_as : (x : Reply) → same_reply x (reply.Commit w.commits) ≡ true → IsVerdictOnRequest t w q x
   committed_as (reply.Commit m) f = (is, eqb-true m w.commits f)
-  committed_as (reply.Refused m) f = absurd cc
-  committed_as (reply.Made m) f = absurd cc
-  committed_as reply.Done f = absurd cc
-  committed_as reply.Tested f = absurd cc
-  committed_as (reply.Space m) f = absurd cc
-  committed_as (reply.Busy x m) f = absurd cc
-  committed_as (reply.Denied m) f = absurd cc
-  committed_as (reply.Event x) f = absurd cc
-  committed_as reply.NoEvent f = absurd cc
+  committed_as x f = absurd cc
 
 late_verdict : (s : Script) (journal : List Entry) (q : Request) (a : Reply) → is_refused_late_at s journal q a ≡ true
     → IsVerdictOnRequest s (serial s journal) q a
@@ -229,14 +205,7 @@ late_verdict s journal q a e =
           → IsVerdictOnRequest s (serial s journal) q x
       of_reply (reply.Space m) is f = is
       of_reply (reply.Busy x m) is f = is
-      of_reply (reply.Refused m) is f = absurd cc
-      of_reply (reply.Made m) is f = absurd cc
-      of_reply reply.Done is f = absurd cc
-      of_reply (reply.Commit m) is f = absurd cc
-      of_reply reply.Tested is f = absurd cc
-      of_reply (reply.Denied m) is f = absurd cc
-      of_reply (reply.Event x) is f = absurd cc
-      of_reply reply.NoEvent is f = absurd cc
+      of_reply x is f = absurd cc
 
 request_verdict : (s : Script) (r : Report) (a : Answered) (q : Request)
     → (is_devices_reply s r a (command.Atomic q) ||
@@ -259,15 +228,7 @@ reply_verdict : (s : Script) (r : Report) (a : Answered) (o : Option Command) �
     → IsVerdict s (world_at s r a.place) a.reply o
 reply_verdict s r a None e = absurd cc
 reply_verdict s r a (Some (command.Atomic q)) e = request_verdict s r a q e
-reply_verdict s r a (Some (command.Buffer label width height format pattern)) e = tt
-reply_verdict s r a (Some (command.AddFb label buffer)) e = tt
-reply_verdict s r a (Some (command.Mode label m)) e = tt
-reply_verdict s r a (Some (command.Blob label bytes)) e = tt
-reply_verdict s r a (Some (command.Destroy label)) e = tt
-reply_verdict s r a (Some (command.CloseFb label)) e = tt
-reply_verdict s r a (Some (command.Fence label)) e = tt
-reply_verdict s r a (Some (command.Signal label)) e = tt
-reply_verdict s r a (Some command.Wait) e = tt
+reply_verdict s r a (Some c) e = tt
 
 stands_at : (s : Script) (r : Report) (k : ℕ) (a : Answered) → AllRight s r → slice_get (answers_in r) k ≡ Some a
     → StandsAtPlace s (entries_in r) a

@@ -1,19 +1,19 @@
 -- Places among items, and what the maps of J and R lines tell of a report.
-use Rattle.std.proofs.Common.{◌≡◌, ℕ, suc, ◌+◌, Bool, true, false, List, [], ◌∷◌, ◌++◌, length, Option, Some, None, refl, sym, ap, ◌∙◌, subst, arith, inl, inr, Ordering, Less, Equal, Greater}
-use Rattle.std.proofs.lemmas.Bool.{and_from, and_left, and_parts, and_right, eq-eqb, eqb-true, lt-ltb, ne_eqb, not-true, or_cases, or_left, or_parts}
+use Rattle.std.proofs.Common.{◌≡◌, ℕ, ◌+◌, Bool, true, false, List, [], ◌∷◌, ◌++◌, length, Option, Some, None, refl, sym, ap, ◌∙◌, arith, inl, inr, Ordering, Less, Equal, Greater}
+use Rattle.std.proofs.lemmas.Bool.{and_from, and_left, and_parts, and_right, eq-eqb, eqb-true, ne_eqb, not-true, or_cases, or_left, or_parts}
 use Rattle.std.proofs.lemmas.Bool.Decides.{nat_tests}
-use Rattle.std.proofs.lemmas.List.{map-append}
 use Rattle.std.proofs.lemmas.List.Folds.{list_any-append}
 use Rattle.std.specs.BTreeMap as tree
 use Rattle.std.specs.BTreeMap.{BTreeMap, is_at}
 use Rattle.std.specs.BTreeSet as sorted
 use Rattle.std.specs.BTreeSet.{BTreeSet}
-use Rattle.std.specs.List.{list_all, list_any, position, prefix_len}
+use Rattle.std.specs.List.{list_all, list_any, position}
 use Rattle.std.specs.Ordering.{is_eq, nat_cmp, ordering_then}
-use Rattle.std.specs.Prelude.{◌&&◌, ◌||◌, ◌==◌, cond, is_some, map, nat_lt, not, option_map}
+use Rattle.std.specs.Prelude.{◌&&◌, ◌||◌, ◌==◌, cond, is_some, map, not, option_map}
+use Rattle.kms_told.proofs.Items.{or_place, place_if, position-cons, position-push}
 use Rattle.kms_audit.specs.declared.index.Index.{Index}
 use Rattle.kms_audit.specs.declared.index.Lacking.{Lacking}
-use Rattle.kms_audit.specs.Indexed.{AreAnswered, AreEntries, AreLacking, AreSpeaking, IsIndexOf, LackIn, pair_cmp, same_pair, speaks}
+use Rattle.kms_audit.specs.Indexed.{AreAnswered, AreEntries, AreLacking, AreSpeaking, IsIndexOf, pair_cmp, same_pair, speaks}
 use Rattle.kms_model.specs.declared.replies.Answered.{Answered}
 use Rattle.kms_model.specs.declared.replies.Reply.{Reply}
 use Rattle.kms_model.specs.declared.reports.Report.{Report}
@@ -22,58 +22,12 @@ use Rattle.kms_model.specs.Report.RightAnswers.{answer_from, answers_are_whole, 
 
 -- The place of the first item that passes
 
-at_cons : (b : Bool) (m n : ℕ) → cond (nat_lt (cond {A = ℕ} (not b) (1 + m) 0) (suc n)) (Some (cond {A = ℕ} (not b) (1 + m) 0)) None
-    ≡ cond b (Some 0) (option_map (λ place. place + 1) (cond (nat_lt m n) (Some m) None))
-at_cons true m n = first (nat_lt 0 (suc n)) (lt-ltb 0 (suc n) (omega arith)) where
-  first : (c : Bool) → c ≡ true → cond {A = Option ℕ} c (Some 0) None ≡ Some 0
-  first true e = refl
-  first false e = absurd cc
-at_cons false m n = later (nat_lt (1 + m) (suc n)) (nat_lt m n) (grind (arith, nat_tests)) where
-  later : (c d : Bool) → c ≡ d → cond {A = Option ℕ} c (Some (1 + m)) None ≡ option_map (λ place. place + 1)
-      (cond {A = Option ℕ} d (Some m) None)
-  later true true e = ap Some (omega arith)
-  later false false e = refl
-  later true false e = absurd cc
-  later false true e = absurd cc
-
-pub position-cons : {A : Type 0} (p : A → Bool) (x : A) (xs : List A)
-    → position p (x ∷ xs) ≡ cond (p x) (Some 0) (option_map (λ place. place + 1) (position p xs))
-position-cons p x xs = at_cons (p x) (prefix_len (λ y. not (p y)) xs) (length xs)
-
 pub position-map : {A B : Type 0} (p : B → Bool) (f : A → B) (xs : List A) → position p (map f xs) ≡ position (λ x. p (f x)) xs
 position-map p f [] = refl
 position-map p f (x ∷ xs) =
     position-cons p (f x) (map f xs)
     ∙ (ap (λ o. cond (p (f x)) (Some 0) (option_map (λ place. place + 1) o)) (position-map p f xs)
     ∙ sym (position-cons (λ y. p (f y)) x xs))
-
-abbrev or_place : Option ℕ → Option ℕ → Option ℕ
-or_place None b = b
-or_place (Some a) b = Some a
-
-abbrev place_if : Bool → ℕ → Option ℕ
-place_if b n = cond b (Some n) None
-
-pushed_one : (b : Bool) → cond b (Some 0) (option_map (λ place. place + 1) None) ≡ place_if b 0
-pushed_one true = refl
-pushed_one false = refl
-
-pushed_more : (b c : Bool) (o : Option ℕ) (n : ℕ)
-    → cond b (Some 0) (option_map (λ place. place + 1) (or_place o (place_if c n)))
-    ≡ or_place (cond b (Some 0) (option_map (λ place. place + 1) o)) (place_if c (suc n))
-pushed_more true c o n = refl
-pushed_more false c (Some m) n = refl
-pushed_more false true None n = ap Some (omega arith)
-pushed_more false false None n = refl
-
-pub position-push : {A : Type 0} (p : A → Bool) (xs : List A) (y : A)
-    → position p (xs ++ y ∷ []) ≡ or_place (position p xs) (place_if (p y) (length xs))
-position-push p [] y = position-cons p y [] ∙ pushed_one (p y)
-position-push p (x ∷ xs) y =
-    position-cons p x (xs ++ y ∷ [])
-    ∙ (ap (λ o. cond (p x) (Some 0) (option_map (λ place. place + 1) o)) (position-push p xs y)
-    ∙ (pushed_more (p x) (p y) (position p xs) (length xs)
-    ∙ ap (λ o. or_place o (place_if (p y) (suc (length xs)))) (sym (position-cons p x xs))))
 
 -- Keys
 
@@ -170,102 +124,34 @@ entries-more journal old new entry are set none q =
     ∙ (new_place journal (tree.get pair_cmp old q) q entry (same_pair q entry) refl (are q) (sym (are entry) ∙ none)
     ∙ sym (position-push (same_pair q) journal entry)))
 
--- a command that was one before keeps its place
-old_place : (journal : List (ℕ × ℕ)) (q entry : ℕ × ℕ) (b : Bool) → same_pair q entry ≡ b
-    → is_some (position (same_pair entry) journal) ≡ true
-    → position (same_pair q) journal ≡ or_place (position (same_pair q) journal) (place_if b (length journal))
-old_place journal q entry false e some = sym (or_none (position (same_pair q) journal))
-old_place journal q entry true e some =
-    kept (position (same_pair q) journal) (ap (λ k. is_some (position (same_pair k) journal)) (pair_same q entry e) ∙ some) where
-      kept : (o : Option ℕ) → is_some o ≡ true → o ≡ or_place o (Some (length journal))
-      kept (Some n) f = refl
-      kept None f = absurd cc
-
-pub entries-kept : (journal : List (ℕ × ℕ)) (m : BTreeMap (ℕ × ℕ) ℕ) (entry : ℕ × ℕ) → AreEntries journal m
-    → is_some (tree.get pair_cmp m entry) ≡ true → AreEntries (journal ++ entry ∷ []) m
-entries-kept journal m entry are some q =
-    are q
-    ∙ (old_place journal q entry (same_pair q entry) refl (ap is_some (sym (are entry)) ∙ some)
-    ∙ sym (position-push (same_pair q) journal entry))
-
 -- R lines, one more
+
+-- the keys of some items are in a set; one item more
+pub keys-more : {A K : Type 0} (cmp : K → K → Ordering) (same : K → K → Bool) → ((k q : K) → is_at (cmp k) q ≡ same k q) → (key : A → K)
+    → (xs : List A) (x : A) (old new : K → Bool) → ((q : K) → old q ≡ list_any (λ y. same (key y) q) xs)
+    → ((q : K) → new q ≡ cond (is_at (cmp (key x)) q) true (old q)) → (q : K) → new q ≡ list_any (λ y. same (key y) q) (xs ++ x ∷ [])
+keys-more cmp same agree key xs x old new are set q =
+    set q
+    ∙ (ap (λ b. cond b true (old q)) (agree (key x) q)
+    ∙ (ap (cond (same (key x) q) true) (are q)
+    ∙ (or_added (same (key x) q) (list_any (λ y. same (key y) q) xs) ∙ sym (any-push (λ y. same (key y) q) xs x))))
 
 pub answered-more : (replies : List (ℕ × ℕ × ℕ × Reply)) (old new : BTreeSet (ℕ × ℕ)) (a : ℕ × ℕ × ℕ × Reply) → AreAnswered replies old
     → ((q : ℕ × ℕ) → sorted.contains pair_cmp new q ≡ cond (is_at (pair_cmp (a.0, a.1)) q) true (sorted.contains pair_cmp old q))
     → AreAnswered (replies ++ a ∷ []) new
-answered-more replies old new a are set q =
-    set q
-    ∙ (ap (λ b. cond b true (sorted.contains pair_cmp old q)) (same_keys (a.0, a.1) q)
-    ∙ (ap (cond (same_pair (a.0, a.1) q) true) (are q)
-    ∙ (or_added (same_pair (a.0, a.1) q) (list_any (λ x. same_pair (x.0, x.1) q) replies)
-    ∙ sym (any-push (λ x. same_pair (x.0, x.1) q) replies a))))
+answered-more replies old new a =
+    keys-more pair_cmp same_pair same_keys (λ x. (x.0, x.1)) replies a (sorted.contains pair_cmp old) (sorted.contains pair_cmp new)
 
 pub speaking-more : (replies : List (ℕ × ℕ × ℕ × Reply)) (old new : BTreeSet ℕ) (a : ℕ × ℕ × ℕ × Reply) → AreSpeaking replies old
     → ((q : ℕ) → sorted.contains nat_cmp new q ≡ cond (is_at (nat_cmp a.0) q) true (sorted.contains nat_cmp old q))
     → AreSpeaking (replies ++ a ∷ []) new
-speaking-more replies old new a are set q =
-    set q
-    ∙ (ap (λ b. cond b true (sorted.contains nat_cmp old q)) (same_number a.0 q)
-    ∙ (ap (cond (a.0 == q) true) (are q)
-    ∙ (or_added (a.0 == q) (list_any (λ x. x.0 == q) replies) ∙ sym (any-push (λ x. x.0 == q) replies a))))
+speaking-more replies old new a =
+    keys-more nat_cmp (λ k q. k == q) same_number (λ x. x.0) replies a (sorted.contains nat_cmp old) (sorted.contains nat_cmp new)
 
 -- What entries lack
 
 abbrev lacks_it : Report → ℕ → Entry → Bool
 lacks_it r client e = (e.client == client) && not (has_answer r e)
-
-abbrev is_of_silent : Report → Entry → Bool
-is_of_silent r e = not (speaks r e.client)
-
--- one entry more; old and new are what a set tells of a client
-lacks-kept : (here answered old : Bool) → answered ≡ true → old ≡ (old || (here && not answered))
-lacks-kept here answered old e = subst (λ b. old ≡ (old || (here && not b))) (sym e) (kept here old) where
-  kept : (h o : Bool) → o ≡ (o || (h && false))
-  kept true true = refl
-  kept true false = refl
-  kept false true = refl
-  kept false false = refl
-
-lacks-added : (here answered old : Bool) → answered ≡ false → cond here true old ≡ (old || (here && not answered))
-lacks-added here answered old e = subst (λ b. cond here true old ≡ (old || (here && not b))) (sym e) (added here old) where
-  added : (h o : Bool) → cond h true o ≡ (o || (h && true))
-  added true true = refl
-  added true false = refl
-  added false true = refl
-  added false false = refl
-
-module _ (r : Report) (journal : List (ℕ × ℕ)) (entry : ℕ × ℕ) (old new : Lacking) (lack : LackIn r journal old)
-    (silent : new.has_silent ≡ (old.has_silent || not (speaks r entry.0))) where
-  longer : (p : Entry → Bool) → list_any p
-      (map entry_from (journal ++ entry ∷ [])) ≡ (list_any p (map entry_from journal) || p (entry_from entry))
-  longer p = ap (list_any p) (map-append entry_from journal (entry ∷ [])) ∙ any-push p (map entry_from journal) (entry_from entry)
-
-  silent_more : new.has_silent ≡ list_any (is_of_silent r) (map entry_from (journal ++ entry ∷ []))
-  silent_more = silent ∙ (ap (λ b. b || not (speaks r entry.0)) lack.silent ∙ sym (longer (is_of_silent r)))
-
-  pub lack-kept : has_answer r (entry_from entry) ≡ true → new.clients.keys ≡ old.clients.keys → LackIn r (journal ++ entry ∷ []) new
-  lack-kept answered same = record {
-    clients = λ client.
-        ap (list_any (is_at (nat_cmp client))) same
-        ∙ (lack.clients client
-        ∙ (lacks-kept (entry.0 == client) (has_answer r (entry_from entry)) (list_any (lacks_it r client) (map entry_from journal)) answered
-        ∙ sym (longer (lacks_it r client))));
-    silent = silent_more;
-  }
-
-  pub lack-more : has_answer r (entry_from entry) ≡ false
-      → ((q : ℕ) → sorted.contains nat_cmp new.clients q ≡ cond (is_at (nat_cmp entry.0) q) true (sorted.contains nat_cmp old.clients q))
-      → LackIn r (journal ++ entry ∷ []) new
-  lack-more answered set = record {
-    clients = λ client.
-        set client
-        ∙ (ap (λ b. cond b true (sorted.contains nat_cmp old.clients client)) (same_number entry.0 client)
-        ∙ (ap (cond (entry.0 == client) true) (lack.clients client)
-        ∙ (lacks-added (entry.0 == client) (has_answer r (entry_from entry))
-        (list_any (lacks_it r client) (map entry_from journal)) answered
-        ∙ sym (longer (lacks_it r client)))));
-    silent = silent_more;
-  }
 
 -- what all of them lack
 

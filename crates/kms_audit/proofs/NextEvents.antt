@@ -8,7 +8,7 @@ use Rattle.std.specs.BTreeMap as tree
 use Rattle.std.specs.BTreeMap.{BTreeMap, is_at}
 use Rattle.std.specs.List.{position}
 use Rattle.std.specs.Prelude.{◌==◌, cond, is_some, nat_lt, option_map, slice_get, slice_index_or, if◌then◌else◌}
-use Rattle.kms_audit.proofs.Indices.{position-cons}
+use Rattle.kms_told.proofs.Items.{position-cons}
 use Rattle.kms_audit.proofs.Owed.{one-less, owed-push}
 use Rattle.kms_audit.specs.declared.events.Reader.{Reader}
 use Rattle.kms_audit.specs.declared.order.Block.{Block}

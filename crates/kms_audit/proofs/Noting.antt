@@ -1,37 +1,44 @@
 -- The table of last touches, one object further, and one commit further.
 use Rattle.std.proofs.Common.{◌≡◌, ℕ, zero, suc, ◌+◌, ◌-◌, ◌<◌, ◌≤◌, Bool, true, false, List, length, Option, None, refl, sym, ap, ◌∙◌, arith, inl, inr}
 use Rattle.std.proofs.lemmas.Bool.{cases_eq}
-use Rattle.std.proofs.lemmas.List.{get_or-set_other, get_or-set_same}
+use Rattle.std.proofs.lemmas.List.{get_or-set_other, get_or-set_same, length-set}
 use Rattle.std.specs.Prelude.{replicate, slice_index_or, slice_set, if◌then◌else◌}
 use Rattle.kms_audit.proofs.Spanned.{in_range}
 use Rattle.kms_audit.specs.declared.touches.Touches.{Touches}
-use Rattle.kms_audit.specs.Touching.{is_touched_in, last_in, noted}
+use Rattle.kms_audit.specs.Touching.{IsNotedRow, is_touched_in, last_in, noted}
 use Rattle.kms_model.proofs.KindsOfIds.{kind-conn, kind-crtc, kind-plane}
 use Rattle.kms_model.specs.declared.objects.Kind.TheVariants.{Crtc, Plane, Conn}
 use Rattle.kms_model.specs.declared.states.Mask.{Mask}
 use Rattle.kms_model.specs.Device.Masks.{has_bit}
 use Rattle.kms_model.specs.Device.Objects.{first_id, index_of, is_id_of}
 
-module _ (xs old : List (Option ℕ)) (n index mask commit : ℕ) (size : length xs ≡ n) (within : index < n)
-    (done : (i : ℕ) → i < index → slice_index_or xs i None ≡ noted (slice_index_or old i None) (has_bit mask i) commit)
-    (left : (i : ℕ) → index ≤ i → slice_index_or xs i None ≡ slice_index_or old i None)
-    (now : Option ℕ) (is : now ≡ noted (slice_index_or xs index None) (has_bit mask index) commit) where
-  pub note-done : (i : ℕ) → i < index + 1 → slice_index_or (slice_set xs index now) i None ≡ noted
-      (slice_index_or old i None) (has_bit mask i) commit
-  note-done i below =
+-- a row whose first places are noted
+pub record IsNoted (old xs : List (Option ℕ)) (index touched commit : ℕ) : Type 0 where
+  pub size : length xs ≡ length old
+  pub done : (i : ℕ) → i < index → slice_index_or xs i None ≡ noted (slice_index_or old i None) (has_bit touched i) commit
+  pub left : (i : ℕ) → index ≤ i → slice_index_or xs i None ≡ slice_index_or old i None
+
+pub note-first : (old : List (Option ℕ)) (touched commit : ℕ) → IsNoted old old 0 touched commit
+note-first old touched commit = record { size = refl; done = λ i below. absurd (omega (arith, below)); left = λ i above. refl }
+
+pub note-next : (old xs : List (Option ℕ)) (index touched commit : ℕ) (now : Option ℕ) → IsNoted old xs index touched commit
+    → index < length old → now ≡ noted (slice_index_or xs index None) (has_bit touched index) commit
+    → IsNoted old (slice_set xs index now) (index + 1) touched commit
+note-next old xs index touched commit now so within is = record {
+  size = length-set xs index now ∙ so.size;
+  done = λ i below.
       elim (cases_eq i index) [
         | inl here ↦ (
-            let set = get_or-set_same xs index now None (omega (arith, size, within)) in
+            let set = get_or-set_same xs index now None (omega (arith, so.size, within)) in
             ap (λ k. slice_index_or (slice_set xs index now) k None) here
-            ∙ (set ∙ (is ∙ (ap (λ o. noted o (has_bit mask index) commit) (left index (omega arith))
-            ∙ ap (λ k. noted (slice_index_or old k None) (has_bit mask k) commit) (sym here)))))
-        | inr apart ↦ get_or-set_other xs index i now None apart ∙ done i (apart_below i index apart below)
-      ] where
-        apart_below : (m k : ℕ) → (m ≡ k → ⊥) → m < k + 1 → m < k
-        apart_below m k e l = omega arith
-
-  pub note-left : (i : ℕ) → index + 1 ≤ i → slice_index_or (slice_set xs index now) i None ≡ slice_index_or old i None
-  note-left i above = get_or-set_other xs index i now None (λ e. omega arith) ∙ left i (omega arith)
+            ∙ (set ∙ (is ∙ (ap (λ o. noted o (has_bit touched index) commit) (so.left index (omega arith))
+            ∙ ap (λ k. noted (slice_index_or old k None) (has_bit touched k) commit) (sym here)))))
+        | inr apart ↦ get_or-set_other xs index i now None apart ∙ so.done i (apart_below i index apart below)
+      ];
+  left = λ i above. get_or-set_other xs index i now None (λ e. omega arith) ∙ so.left i (omega arith);
+} where
+  apart_below : (m k : ℕ) → (m ≡ k → ⊥) → m < k + 1 → m < k
+  apart_below m k e l = omega arith
 
 -- Ids of each kind have indices below the most of them.
 
@@ -89,17 +96,16 @@ by_kind false true c p q s xn xo yn yo zn zo k e f g = f refl
 by_kind false false true p q s xn xo yn yo zn zo k e f g = g refl
 by_kind false false false p q s xn xo yn yo zn zo k e f g = refl
 
--- a row of the table behind a commit
-abbrev pub IsRow : List (Option ℕ) → List (Option ℕ) → ℕ → ℕ → ℕ → Type 0
-IsRow old new most mask k = (i : ℕ) → i < most → slice_index_or new i None ≡ noted (slice_index_or old i None) (has_bit mask i) k
-
-pub note-all : (old new : Touches) (m : Mask) (k : ℕ) → IsRow old.crtcs new.crtcs 4 m.crtcs k → IsRow old.planes new.planes 16 m.planes k
-    → IsRow old.conns new.conns 8 m.conns k → (object : ℕ) → last_in new object ≡ noted (last_in old object) (is_touched_in m object) k
-note-all old new m k crtcs planes conns object =
+pub note-all : (old new : Touches) (m : Mask) (k : ℕ)
+    → length old.crtcs ≡ 4 → length old.planes ≡ 16 → length old.conns ≡ 8
+    → IsNotedRow old.crtcs new.crtcs m.crtcs k → IsNotedRow old.planes new.planes m.planes k → IsNotedRow old.conns new.conns m.conns k
+    → (object : ℕ) → last_in new object ≡ noted (last_in old object) (is_touched_in m object) k
+note-all old new m k four sixteen eight crtcs planes conns object =
     let i = index_of object in
     by_kind (is_id_of Crtc object) (is_id_of Plane object) (is_id_of Conn object) (has_bit m.crtcs i)
     (has_bit m.planes i) (has_bit m.conns i)
     (slice_index_or new.crtcs i None) (slice_index_or old.crtcs i None) (slice_index_or new.planes i None)
     (slice_index_or old.planes i None)
     (slice_index_or new.conns i None) (slice_index_or old.conns i None) k
-    (λ e. crtcs i (few_crtc object e)) (λ e. planes i (few_plane object e)) (λ e. conns i (few_conn object e))
+    (λ e. crtcs i (omega (arith, few_crtc object e, four))) (λ e. planes i (omega (arith, few_plane object e, sixteen)))
+    (λ e. conns i (omega (arith, few_conn object e, eight)))

@@ -5,7 +5,7 @@ use Rattle.std.proofs.lemmas.List.{drop_all, drop_more}
 use Rattle.std.specs.Prelude.{option_map, if◌then◌else◌}
 use Rattle.std.specs.List.{position}
 use Rattle.kms_audit.proofs.Firsts.{at-next}
-use Rattle.kms_audit.proofs.Indices.{position-cons}
+use Rattle.kms_told.proofs.Items.{position-cons}
 use Rattle.kms_model.specs.Report.Right.{number_at}
 
 module _ {A : Type 0} (p : A → Bool) (xs : List A) (i : ℕ) where

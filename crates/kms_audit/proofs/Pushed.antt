@@ -1,16 +1,13 @@
 -- The images of a picture's framebuffers.
 use Rattle.std.proofs.Common.{◌≡◌, ℕ, ◌+◌, ◌<◌, Bool, true, false, cond, eqb, List, [], ◌∷◌, ◌++◌, length, get_or, take, Option, Some, None, refl, sym, ap, ◌∙◌, subst}
-use Rattle.std.specs.Prelude.{All}
 use Rattle.std.proofs.lemmas.Bool.{eq-eqb, cond-true, cond-false, eqb-true}
 use Rattle.std.proofs.lemmas.List.Elements.{All-push, All-head, All-tail, All-more, All-weaker}
-use Rattle.kms_model.specs.declared.objects.Mode.{Mode}
 use Rattle.kms_model.specs.declared.pictures.Layer.{Layer}
 use Rattle.kms_model.specs.declared.worlds.Thing.{Thing}
 use Rattle.kms_model.specs.Frames.Images.{image_of}
 use Rattle.kms_model.specs.Things.Kept.{Seen}
-use Rattle.kms_compose.specs.Images.{AreImagesIn, IsShowable, image_seen, seen_under}
+use Rattle.kms_compose.specs.Images.{AreImagesIn, image_seen, seen_under}
 use Rattle.kms_compose.specs.declared.images.FbImage.{FbImage}
-use Rattle.kms_model.specs.Frames.Shown.{CanBeShown, HasWords}
 use Rattle.kms_audit.specs.Framed.{AreSeen, IsPushed}
 
 -- One image more
@@ -74,25 +71,3 @@ pushed-more things layers i d old new within p images before =
     All-more (IsSeen things new) layers i d within
     (All-weaker (IsSeen things old) (IsSeen things new) (pushed_kept things (get_or layers i d).fb.id old new p) (take i layers) before)
     (pushed_seen things (get_or layers i d).fb.id old new p images)
-
--- Pictures
-
--- layers that can be shown, over images in which they are seen
-pub showable : (things : List Thing) (m : Mode) (images : List FbImage) (layers : List Layer) → All (CanBeShown things m) layers
-    → AreSeen things images layers → All (IsShowable m images) layers
-showable things m images layers can are k d within =
-    let one = can k d within in
-    record {
-      placed = one.placed;
-      image = record {
-        seen = one.words.seen;
-        found = are k d within ∙ one.words.found;
-        width = one.words.width;
-        height = one.words.height;
-        words = one.words.words;
-      };
-    }
-
-pub have_words : (things : List Thing) (m : Mode) (layers : List Layer) → All (CanBeShown things m) layers
-    → All (λ l. HasWords things l.fb) layers
-have_words things m layers can k d within = (can k d within).words

@@ -7,7 +7,7 @@ use Rattle.std.specs.Prelude.{◌&&◌, ◌==◌, ◌⊎◌, cond, filter, is_so
 use Rattle.std.specs.List.{cons_option, filter_map, last_or, position}
 use Rattle.std.specs.Option.{option_and_then, option_map_or}
 use Rattle.kms_audit.proofs.Blockwise.{get_drop, get_take}
-use Rattle.kms_audit.proofs.Indices.{position-cons}
+use Rattle.kms_told.proofs.Items.{position-cons}
 use Rattle.kms_audit.proofs.Entering.{filter_push}
 use Rattle.kms_audit.proofs.Leasts.{get-within, last-push}
 use Rattle.kms_audit.proofs.Tracks.{drop_get, drop_more_is, drop_none}
@@ -27,11 +27,6 @@ filter_none : {A : Type 0} (p : A → Bool) (xs : List A) → ((k : ℕ) (x : A)
 filter_none p [] none = refl
 filter_none p (x ∷ xs) none =
     cond-false (p x) (x ∷ filter p xs) (filter p xs) (none 0 x refl) ∙ filter_none p xs (λ k y g. none (suc k) y g)
-
-filter_all : {A : Type 0} (p : A → Bool) (xs : List A) → ((k : ℕ) (x : A) → slice_get xs k ≡ Some x → p x ≡ true) → filter p xs ≡ xs
-filter_all p [] all = refl
-filter_all p (x ∷ xs) all =
-    cond-true (p x) (x ∷ filter p xs) (filter p xs) (all 0 x refl) ∙ ap (λ ys. x ∷ ys) (filter_all p xs (λ k y g. all (suc k) y g))
 
 nothing_left : {A : Type 0} (n m : ℕ) → ◌≡◌ {A = List A} [] (take n (drop m []))
 nothing_left zero m = refl

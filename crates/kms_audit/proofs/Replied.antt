@@ -6,8 +6,6 @@ use Rattle.kms_audit.specs.declared.touches.Touches.{Touches}
 use Rattle.kms_audit.specs.Judged.{IsAt, StandsAt}
 use Rattle.kms_model.specs.declared.objects.ObjId.{ObjId}
 use Rattle.kms_model.specs.declared.replies.Answered.{Answered}
-use Rattle.kms_model.specs.declared.replies.Event.{Event}
-use Rattle.kms_model.specs.declared.replies.Refusal.{Refusal}
 use Rattle.kms_model.specs.declared.replies.Reply.{Reply}
 use Rattle.kms_model.specs.declared.replies.Reply.TheVariants as reply
 use Rattle.kms_model.specs.declared.reports.Report.{Report}
@@ -23,48 +21,6 @@ use Rattle.kms_model.specs.Report.RightAnswers.{entries_in, is_devices_reply, is
 use Rattle.kms_model.specs.Request.Flags.{is_test}
 use Rattle.kms_model.specs.Request.Verdict.{verdict}
 use Rattle.kms_serial.specs.Device.{Device}
-
--- Replies of two kinds are not the same.
-
-pub apart-made : (m : ℕ) (b : Reply) → ((n : ℕ) → b ≡ reply.Made n → ⊥) → false ≡ same_reply (reply.Made m) b
-apart-made m (reply.Made n) apart = absurd (apart n refl)
-apart-made m b apart = refl
-
-pub apart-done : (b : Reply) → (b ≡ reply.Done → ⊥) → false ≡ same_reply reply.Done b
-apart-done reply.Done apart = absurd (apart refl)
-apart-done b apart = refl
-
-pub apart-commit : (m : ℕ) (b : Reply) → ((n : ℕ) → b ≡ reply.Commit n → ⊥) → false ≡ same_reply (reply.Commit m) b
-apart-commit m (reply.Commit n) apart = absurd (apart n refl)
-apart-commit m b apart = refl
-
-pub apart-tested : (b : Reply) → (b ≡ reply.Tested → ⊥) → false ≡ same_reply reply.Tested b
-apart-tested reply.Tested apart = absurd (apart refl)
-apart-tested b apart = refl
-
-pub apart-refused : (m : Refusal) (b : Reply) → ((n : Refusal) → b ≡ reply.Refused n → ⊥) → false ≡ same_reply (reply.Refused m) b
-apart-refused m (reply.Refused n) apart = absurd (apart n refl)
-apart-refused m b apart = refl
-
-pub apart-space : (m : ℕ) (b : Reply) → ((n : ℕ) → b ≡ reply.Space n → ⊥) → false ≡ same_reply (reply.Space m) b
-apart-space m (reply.Space n) apart = absurd (apart n refl)
-apart-space m b apart = refl
-
-pub apart-busy : (x : ObjId) (m : ℕ) (b : Reply) → ((y : ObjId) (n : ℕ) → b ≡ reply.Busy y n → ⊥) → false ≡ same_reply (reply.Busy x m) b
-apart-busy x m (reply.Busy y n) apart = absurd (apart y n refl)
-apart-busy x m b apart = refl
-
-pub apart-denied : (m : ℕ) (b : Reply) → ((n : ℕ) → b ≡ reply.Denied n → ⊥) → false ≡ same_reply (reply.Denied m) b
-apart-denied m (reply.Denied n) apart = absurd (apart n refl)
-apart-denied m b apart = refl
-
-pub apart-event : (e : Event) (b : Reply) → ((f : Event) → b ≡ reply.Event f → ⊥) → false ≡ same_reply (reply.Event e) b
-apart-event e (reply.Event f) apart = absurd (apart f refl)
-apart-event e b apart = refl
-
-pub apart-none : (b : Reply) → (b ≡ reply.NoEvent → ⊥) → false ≡ same_reply reply.NoEvent b
-apart-none reply.NoEvent apart = absurd (apart refl)
-apart-none b apart = refl
 
 -- What the device tells
 
@@ -105,15 +61,7 @@ module _ (s : Script) (r : Report) (a : Answered) (d : Device) (stands : StandsA
           signalled : (x : Command) → x ≡ command.Signal label
               → same_reply a.reply (execute s.topology (world_at s r a.place) a.client x).reply ≡ reply_is_right_to s r a (Some x)
           signalled (command.Signal other) g = refl
-          signalled command.Wait g = absurd cc
-          signalled (command.Atomic q) g = absurd cc
-          signalled (command.Buffer other width height format pattern) g = absurd cc
-          signalled (command.AddFb other buffer) g = absurd cc
-          signalled (command.Mode other m) g = absurd cc
-          signalled (command.Blob other bytes) g = absurd cc
-          signalled (command.Destroy other) g = absurd cc
-          signalled (command.CloseFb other) g = absurd cc
-          signalled (command.Fence other) g = absurd cc
+          signalled x g = absurd cc
 
 -- Whether a reply is right
 

@@ -1,19 +1,16 @@
 -- The next L line of a CRTC, looked for one line after the other.
-use Rattle.std.proofs.Common.{◌≡◌, ℕ, ◌+◌, ◌<◌, ◌≤◌, true, false, List, [], length, get_or, drop, Option, Some, None, refl, ap, ◌∙◌, arith}
+use Rattle.std.proofs.Common.{◌≡◌, ℕ, ◌+◌, ◌<◌, ◌≤◌, false, List, [], length, get_or, drop, Option, Some, None, refl, ap, ◌∙◌, arith}
 use Rattle.std.proofs.lemmas.List.{drop_all, drop_more, length-drop}
 use Rattle.std.proofs.lemmas.List.Quantifiers.{position-Some}
 use Rattle.std.specs.Prelude.{◌==◌}
 use Rattle.std.specs.List.{position}
 use Rattle.std.specs.Option.{option_map_or}
-use Rattle.kms_audit.proofs.Tracks.{at_other, at_own}
+use Rattle.kms_audit.proofs.Tracks.{at_other}
 use Rattle.kms_audit.specs.Latching.{LatchFields, line_from}
 
 module _ (lines : List LatchFields) (crtc m : ℕ) where
   abbrev at_rest : List LatchFields → ℕ
   at_rest rest = option_map_or (λ p. m + p) (position (λ (l : LatchFields). l.0 == crtc) rest) (length lines)
-
-  pub line-here : (d : LatchFields) → m < length lines → ((get_or lines m d).0 == crtc) ≡ true → line_from lines crtc m ≡ m
-  line-here d within own = ap at_rest (drop_more lines m d within) ∙ at_own lines crtc [] m (get_or lines m d) (drop (m + 1) lines) own
 
   pub line-next : (d : LatchFields) → m < length lines → ((get_or lines m d).0 == crtc) ≡ false
       → line_from lines crtc m ≡ line_from lines crtc (m + 1)

@@ -1,5 +1,5 @@
 -- The objects that a request touches, as a set and by their ids.
-use Rattle.std.proofs.Common.{◌≡◌, ℕ, ◌-◌, ◌<◌, ◌≤◌, Bool, true, false, List, ◌++◌, length, refl, sym, ap, ◌∙◌, subst, arith, inl, inr}
+use Rattle.std.proofs.Common.{◌≡◌, ℕ, ◌+◌, ◌-◌, ◌<◌, ◌≤◌, Bool, true, false, List, ◌++◌, refl, sym, ap, ◌∙◌, subst, arith, inl, inr}
 use Rattle.std.proofs.lemmas.Bool.{and_from, and_left, and_parts, and_right, cond-false, cond-true, eq-eqb, eqb-true, false_from_ne_true, le-leb, le-ltb, leb-true, lt-ltb, ltb-true}
 use Rattle.std.specs.Prelude.{◌&&◌, ◌==◌, nat_le, nat_lt, if◌then◌else◌}
 use Rattle.kms_audit.specs.Touching.{is_touched_in}
@@ -16,7 +16,7 @@ use Rattle.kms_model.specs.declared.scripts.Request.{Request}
 use Rattle.kms_model.specs.declared.states.Mask.{Mask}
 use Rattle.kms_model.specs.declared.worlds.World.{World}
 use Rattle.kms_model.specs.Device.Masks.{has_bit}
-use Rattle.kms_model.specs.Device.Objects.{count_of, first_id, ids_of, index_of, is_id_of, object_id}
+use Rattle.kms_model.specs.Device.Objects.{count_of, first_id, ids_of, index_of, is_id_of, kind_of, object_id}
 use Rattle.kms_model.specs.Device.Sound.{IsDevice}
 use Rattle.kms_model.specs.Machine.Commits.{has_number, lockable}
 use Rattle.kms_model.specs.Request.Apply.{after}
@@ -34,6 +34,22 @@ within low high object l h = and_from (nat_le low object) (nat_lt object high) (
 above : (low high object : ℕ) → high ≤ object → (nat_le low object && nat_lt object high) ≡ false
 above low high object h = and_right (nat_le low object) (nat_lt object high) (le-ltb object high h)
 
+module _ (t : Topology) (kind : Kind) (object : ℕ) (is : IsIn object (ids_of t kind)) where
+  at_least : first_id kind ≤ object
+  at_least = let i : IsObject t kind object = ids-in t kind object is in omega (arith, i.same)
+
+  among : (high : ℕ) → first_id kind + count_of t kind ≤ high → (nat_le (first_id kind) object && nat_lt object high) ≡ true
+  among high few =
+      let i : IsObject t kind object = ids-in t kind object is in
+      within (first_id kind) high object at_least (omega (arith, i.same, i.within, few))
+
+  bit_in : (test : ℕ → Bool) → kind_of object ≡ kind → has_bit (set_where t kind test) (index_of object) ≡ test object
+  bit_in test is_kind =
+      let i : IsObject t kind object = ids-in t kind object is in
+      let index : index_of object ≡ i.index = ap (λ k. object - first_id k) is_kind ∙ omega (arith, i.same) in
+      ap (has_bit (set_where t kind test)) index
+      ∙ (has_bit-below (λ n. test (object_id kind n)) (count_of t kind) i.index i.within ∙ ap test (sym i.same))
+
 module _ (t : Topology) (w : World) (q : Request) (object : ℕ) (few : HasFewObjects t) where
   abbrev mask : Mask
   mask = touched_by t w q
@@ -44,47 +60,35 @@ module _ (t : Topology) (w : World) (q : Request) (object : ℕ) (few : HasFewOb
   abbrev as_plane : Bool
   as_plane = if is_id_of Plane object then has_bit mask.planes (index_of object) else as_conn
 
-  touched_crtc : IsIn object (ids_of t Crtc) → is_touched_in mask object ≡ touches t w q object
+  as_kind : (kind : Kind) → kind_of object ≡ kind → touches_of_kind kind t w q object ≡ touches t w q object
   unfolding touches
+  as_kind kind is = sym (ap (λ k. touches_of_kind k t w q object) is)
+
+  touched_crtc : IsIn object (ids_of t Crtc) → is_touched_in mask object ≡ touches t w q object
   touched_crtc is =
-      let i : IsObject t Crtc object = ids-in t Crtc object is in
       let kind = crtc_kind t object few is in
-      let index : index_of object ≡ i.index = ap (λ k. object - first_id k) kind ∙ omega (arith, i.same) in
       cond-true (is_id_of Crtc object) (has_bit mask.crtcs (index_of object)) as_plane
-      (within 100 104 object (omega (arith, i.same)) (omega (arith, i.same, i.within, few.crtcs)))
-      ∙ (ap (has_bit mask.crtcs) index
-      ∙ (has_bit-below (λ n. touches_crtc w.values (after w q) q.assigns (object_id Crtc n)) t.crtcs i.index i.within
-      ∙ (ap (touches_crtc w.values (after w q) q.assigns) (sym i.same) ∙ sym (ap (λ k. touches_of_kind k t w q object) kind))))
+      (among t Crtc object is 104 (omega (arith, few.crtcs)))
+      ∙ (bit_in t Crtc object is (touches_crtc w.values (after w q) q.assigns) kind ∙ as_kind Crtc kind)
 
   touched_plane : IsIn object (ids_of t Plane) → is_touched_in mask object ≡ touches t w q object
-  unfolding touches
   touched_plane is =
-      let i : IsObject t Plane object = ids-in t Plane object is in
       let kind = plane_kind t object few is in
-      let index : index_of object ≡ i.index = ap (λ k. object - first_id k) kind ∙ omega (arith, i.same) in
-      cond-false (is_id_of Crtc object) (has_bit mask.crtcs (index_of object)) as_plane (above 100 104 object (omega (arith, i.same)))
+      let low = at_least t Plane object is in
+      cond-false (is_id_of Crtc object) (has_bit mask.crtcs (index_of object)) as_plane (above 100 104 object (omega (arith, low)))
       ∙ (cond-true (is_id_of Plane object) (has_bit mask.planes (index_of object)) as_conn
-      (within 200 216 object (omega (arith, i.same)) (omega (arith, i.same, i.within, few.planes)))
-      ∙ (ap (has_bit mask.planes) index
-      ∙ (has_bit-below (λ n. touches_routed t w.things w.values (after w q) q.assigns (object_id Plane n))
-      (length t.planes) i.index i.within
-      ∙ (ap (touches_routed t w.things w.values (after w q) q.assigns) (sym i.same)
-      ∙ sym (ap (λ k. touches_of_kind k t w q object) kind)))))
+      (among t Plane object is 216 (omega (arith, few.planes)))
+      ∙ (bit_in t Plane object is (touches_routed t w.things w.values (after w q) q.assigns) kind ∙ as_kind Plane kind))
 
   touched_conn : IsIn object (ids_of t Conn) → is_touched_in mask object ≡ touches t w q object
-  unfolding touches
   touched_conn is =
-      let i : IsObject t Conn object = ids-in t Conn object is in
       let kind = conn_kind t object few is in
-      let index : index_of object ≡ i.index = ap (λ k. object - first_id k) kind ∙ omega (arith, i.same) in
-      cond-false (is_id_of Crtc object) (has_bit mask.crtcs (index_of object)) as_plane (above 100 104 object (omega (arith, i.same)))
-      ∙ (cond-false (is_id_of Plane object) (has_bit mask.planes (index_of object)) as_conn (above 200 216 object (omega (arith, i.same)))
+      let low = at_least t Conn object is in
+      cond-false (is_id_of Crtc object) (has_bit mask.crtcs (index_of object)) as_plane (above 100 104 object (omega (arith, low)))
+      ∙ (cond-false (is_id_of Plane object) (has_bit mask.planes (index_of object)) as_conn (above 200 216 object (omega (arith, low)))
       ∙ (cond-true (is_id_of Conn object) (has_bit mask.conns (index_of object)) false
-      (within 300 308 object (omega (arith, i.same)) (omega (arith, i.same, i.within, few.conns)))
-      ∙ (ap (has_bit mask.conns) index
-      ∙ (has_bit-below (λ n. touches_routed t w.things w.values (after w q) q.assigns (object_id Conn n)) (length t.conns) i.index i.within
-      ∙ (ap (touches_routed t w.things w.values (after w q) q.assigns) (sym i.same)
-      ∙ sym (ap (λ k. touches_of_kind k t w q object) kind))))))
+      (among t Conn object is 308 (omega (arith, few.conns)))
+      ∙ (bit_in t Conn object is (touches_routed t w.things w.values (after w q) q.assigns) kind ∙ as_kind Conn kind)))
 
 pub touched-in : (t : Topology) (w : World) (q : Request) (object : ℕ) → IsDevice t → has_number (lockable t) object ≡ true
     → is_touched_in (touched_by t w q) object ≡ touches t w q object
@@ -100,16 +104,19 @@ touched-in t w q object device has =
 
 -- What is no object of the device is not touched.
 
-bit_out : (t : Topology) (kind : Kind) (test : ℕ → Bool) (object index : ℕ) → object ≡ object_id kind index
-    → has_number (lockable t) object ≡ false
-    → (IsIn object (ids_of t kind) → IsIn object (lockable t)) → has_bit (set_where t kind test) index ≡ false
-bit_out t kind test object index is out within =
-    has_bit-mask_below (λ n. test (object_id kind n)) (count_of t kind) index
+bit_out : (t : Topology) (kind : Kind) (test : ℕ → Bool) (object : ℕ) → has_number (lockable t) object ≡ false
+    → (IsIn object (ids_of t kind) → IsIn object (lockable t)) → kind_of object ≡ kind → first_id kind ≤ object
+    → has_bit (set_where t kind test) (index_of object) ≡ false
+bit_out t kind test object out within is_kind low =
+    let index = object - first_id kind in
+    let is : object ≡ object_id kind index = omega (arith, low) in
+    ap (λ k. has_bit (set_where t kind test) (object - first_id k)) is_kind
+    ∙ (has_bit-mask_below (λ n. test (object_id kind n)) (count_of t kind) index
     ∙ and_left (nat_lt index (count_of t kind)) (test (object_id kind index))
     (false_from_ne_true (nat_lt index (count_of t kind)) (λ e.
     let there = subst (λ o. IsIn o (ids_of t kind)) (sym is) (ids-has t kind index (ltb-true index (count_of t kind) e)) in
     let has = list_any-has (λ m. m == object) (lockable t) object (within there) (eq-eqb object object refl) in
-    absurd cc))
+    absurd cc)))
 
 -- an id that is in a range
 pub in_range : (low high object : ℕ) → (nat_le low object && nat_lt object high) ≡ true → (low ≤ object) × (object < high)
@@ -124,11 +131,9 @@ untouched-out t w q object out = by_crtc (is_id_of Crtc object) refl where
   at_conn false e = refl
   at_conn true e =
       let range = in_range 300 308 object e in
-      let kind = kind-conn object (omega (arith, range.0)) (omega (arith, range.1)) in
-      let index : index_of object ≡ object - 300 = ap (λ k. object - first_id k) kind in
-      ap (has_bit (touched_by t w q).conns) index
-      ∙ bit_out t Conn (touches_routed t w.things w.values (after w q) q.assigns) object (object - 300) (omega (arith, range.0)) out
+      bit_out t Conn (touches_routed t w.things w.values (after w q) q.assigns) object out
       (λ is. in_right (ids_of t Crtc) (ids_of t Plane ++ ids_of t Conn) object (in_right (ids_of t Plane) (ids_of t Conn) object is))
+      (kind-conn object (omega (arith, range.0)) (omega (arith, range.1))) (omega (arith, range.0))
 
   at_plane : (b : Bool) → is_id_of Plane object ≡ b
       → (if b then has_bit (touched_by t w q).planes (index_of object) else
@@ -136,11 +141,9 @@ untouched-out t w q object out = by_crtc (is_id_of Crtc object) refl where
   at_plane false e = at_conn (is_id_of Conn object) refl
   at_plane true e =
       let range = in_range 200 216 object e in
-      let kind = kind-plane object (omega (arith, range.0)) (omega (arith, range.1)) in
-      let index : index_of object ≡ object - 200 = ap (λ k. object - first_id k) kind in
-      ap (has_bit (touched_by t w q).planes) index
-      ∙ bit_out t Plane (touches_routed t w.things w.values (after w q) q.assigns) object (object - 200) (omega (arith, range.0)) out
+      bit_out t Plane (touches_routed t w.things w.values (after w q) q.assigns) object out
       (λ is. in_right (ids_of t Crtc) (ids_of t Plane ++ ids_of t Conn) object (in_left (ids_of t Plane) (ids_of t Conn) object is))
+      (kind-plane object (omega (arith, range.0)) (omega (arith, range.1))) (omega (arith, range.0))
 
   by_crtc : (b : Bool) → is_id_of Crtc object ≡ b
       → (if b then has_bit (touched_by t w q).crtcs (index_of object)
@@ -149,8 +152,6 @@ untouched-out t w q object out = by_crtc (is_id_of Crtc object) refl where
   by_crtc false e = at_plane (is_id_of Plane object) refl
   by_crtc true e =
       let range = in_range 100 104 object e in
-      let kind = kind-crtc object (omega (arith, range.1)) in
-      let index : index_of object ≡ object - 100 = ap (λ k. object - first_id k) kind in
-      ap (has_bit (touched_by t w q).crtcs) index
-      ∙ bit_out t Crtc (touches_crtc w.values (after w q) q.assigns) object (object - 100) (omega (arith, range.0)) out
+      bit_out t Crtc (touches_crtc w.values (after w q) q.assigns) object out
       (λ is. in_left (ids_of t Crtc) (ids_of t Plane ++ ids_of t Conn) object is)
+      (kind-crtc object (omega (arith, range.1))) (omega (arith, range.0))

@@ -61,13 +61,8 @@ of_letters ls =
 
 letters-few : (ls : List ReportLine) → of_letters ls ≤ length ls
 letters-few [] = omega arith
-letters-few (says.Entry client command ∷ ls) = omega (arith, letters-few ls)
-letters-few (says.Answer client command place answer ∷ ls) = omega (arith, letters-few ls)
-letters-few (says.Latch crtc commit count digest ∷ ls) = omega (arith, letters-few ls)
-letters-few (says.Event client event ∷ ls) = omega (arith, letters-few ls)
-letters-few (says.Freed label id ∷ ls) = omega (arith, letters-few ls)
 letters-few (says.Ended end ∷ ls) = omega (arith, letters-few ls)
-letters-few (says.Stepped step ∷ ls) = omega (arith, letters-few ls)
+letters-few (l ∷ ls) = omega (arith, letters-few ls)
 
 -- the lines of a report that is spelt, but for the last, are few
 pub spelt-few : (r : Report) → IsSpelt r

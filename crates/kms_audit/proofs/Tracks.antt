@@ -9,7 +9,7 @@ use Rattle.std.specs.List.{list_all, position, range_with_len}
 use Rattle.std.specs.Option.{option_map_or}
 use Rattle.kms_audit.proofs.Apart.{and_true}
 use Rattle.kms_audit.proofs.Firsts.{earliest-assoc, earliest-none, off-both, off-fail, off-pass, off-rest, off-same}
-use Rattle.kms_audit.proofs.Indices.{position-cons}
+use Rattle.kms_told.proofs.Items.{position-cons}
 use Rattle.kms_audit.specs.declared.latches.Track.{Track}
 use Rattle.kms_audit.specs.Latching.{LatchFields, first_of_all, first_unmet, line_from, line_tells, no_track, track_of, track_on, track_with, unmet}
 use Rattle.kms_audit.specs.Sections.{earliest, is_pictured, tells_picture}

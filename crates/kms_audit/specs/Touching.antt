@@ -1,5 +1,5 @@
 -- The table of the commits that touched each object last.
-use Rattle.std.specs.Prelude.{◌≡◌, ℕ, Bool, false, List, Option, Some, None, slice_index_or, true, if◌then◌else◌}
+use Rattle.std.specs.Prelude.{◌≡◌, ◌<◌, ℕ, Bool, false, List, length, Option, Some, None, slice_index_or, true, if◌then◌else◌}
 use Rattle.kms_audit.specs.declared.touches.Touches.{Touches}
 use Rattle.kms_model.specs.declared.objects.Kind.TheVariants.{Crtc, Plane, Conn}
 use Rattle.kms_model.specs.declared.scripts.Script.{Script}
@@ -13,6 +13,11 @@ use Rattle.kms_model.specs.Report.RightAnswers.{last_touch}
 -- the last commit that touched an object, after one that may touch it
 abbrev pub noted : Option ℕ → Bool → ℕ → Option ℕ
 noted last is_touched commit = if is_touched then Some commit else last
+
+-- a row of the table behind a commit
+abbrev pub IsNotedRow : List (Option ℕ) → List (Option ℕ) → ℕ → ℕ → Type 0
+IsNotedRow old new touched commit =
+    (i : ℕ) → i < length old → slice_index_or new i None ≡ noted (slice_index_or old i None) (has_bit touched i) commit
 
 -- an object is one of a set: a CRTC, a plane or a connector of the largest device
 abbrev pub is_touched_in : Mask → ℕ → Bool

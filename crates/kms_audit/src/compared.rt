@@ -7,7 +7,7 @@ ghost use Rattle.kms_model.specs.declared.reports.Report.{Report};
 ghost use Rattle.kms_model.specs.Report.RightAnswers.{answer_from};
 
 use crate::index::Index;
-use crate::lines::{ReplyFields, answered, earliest};
+use crate::lines::{ReplyFields, answer_of, earliest};
 use crate::order::{Block, Blocks};
 use crate::replies::reply_is_right;
 use crate::touches::Touches;
@@ -50,33 +50,54 @@ impl Compared {
         requires compared { AreCompared script.now report.now place self.old }
         ensures { AreCompared script.now report.now (place + 1) self.new }
     {
+        let standing = Standing {
+            script,
+            index,
+            serial,
+            touches,
+        };
         let replies = report.replies.as_slice();
         for client in 0..16usize {
             let mut block = self.blocks[client];
             let differing = self.differing;
-            self.differing = compare_block(
-                script, index, replies, serial, touches, place, &mut block, differing,
-            );
+            self.differing = compare_block(&standing, replies, place, &mut block, differing);
             self.blocks[client] = block;
         }
     }
 }
 
+/// What a reply is judged by where the device stands.
+#[derive(Clone, Copy)]
+struct Standing<'a> {
+    /// The script whose commands are answered.
+    script: &'a Script,
+    /// What the report's lines are found by.
+    index: &'a Index,
+    /// The device of one thread, as it stands there.
+    serial: &'a Serial,
+    /// The commits that touched each object last.
+    touches: &'a Touches,
+}
+
 /// The place of the first line whose reply is not right, with one more line, at this place among them.
 fn with_line(
-    script: &Script,
-    index: &Index,
-    serial: &Serial,
-    touches: &Touches,
+    standing: &Standing,
     line: &ReplyFields,
     at: usize,
     differing: Option<usize>,
 ) -> Option<usize>
-    ensures { (r : Report) → IsIndexOf r index.now
-        → IsAt script.now r (answer_from line.now).place serial.now touches.now
-        → result ≡ differing_with script.now r (answer_from line.now) at differing }
+    ensures { (r : Report) → IsIndexOf r standing.now.index.now
+        → IsAt standing.now.script.now r (answer_from line.now).place standing.now.serial.now
+        standing.now.touches.now
+        → result ≡ differing_with standing.now.script.now r (answer_from line.now) at differing }
 {
-    if reply_is_right(script, index, serial, touches, &answered(line)) {
+    let Standing {
+        script,
+        index,
+        serial,
+        touches,
+    } = *standing;
+    if reply_is_right(script, index, serial, touches, &answer_of(line)) {
         differing
     } else {
         earliest(differing, Some(at))
@@ -86,24 +107,21 @@ fn with_line(
 /// Compares the lines of a client at a place, at which the device stands. Gives the place of the first line whose reply is not
 /// right, of those before and of these.
 fn compare_block(
-    script: &Script,
-    index: &Index,
+    standing: &Standing,
     replies: &[ReplyFields],
-    serial: &Serial,
-    touches: &Touches,
     place: u32,
     block: &mut Block,
     differing: Option<usize>,
 ) -> Option<usize>
     requires within { block.old.end ≤ length replies.now }
-    ensures { (r : Report) → IsIndexOf r index.now → r.replies ≡ replies.now
-        → IsAt script.now r place serial.now touches.now
-        → BlockIsCompared script.now r place block.old block.new differing result }
+    ensures { (r : Report) → IsIndexOf r standing.now.index.now → r.replies ≡ replies.now
+        → IsAt standing.now.script.now r place standing.now.serial.now standing.now.touches.now
+        → BlockIsCompared standing.now.script.now r place block.old block.new differing result }
 {
     let mut first = differing;
     'lines: while block.next < block.end && replies[block.next].2 == place {
         let at = block.next;
-        first = with_line(script, index, serial, touches, &replies[at], at, first);
+        first = with_line(standing, &replies[at], at, first);
         block.next = at + 1;
     }
     first

@@ -3,7 +3,6 @@ ghost use Rattle.std.specs.Prelude.{◌≡◌, ◌≤◌, ◌<◌, ◌+◌, ℕ,
 ghost use Rattle.kms_audit.specs.Eventing.{AreClientsFew, AreOwed, AreShort, IsTaken, block_of, is_owed, next_event, next_reader, owed_at, reader_behind, owed_by, tells_event, told_count, turned};
 ghost use Rattle.kms_audit.specs.Ordered.{AreBlocksWithin};
 ghost use Rattle.kms_audit.specs.Eventing.{AreRightBefore};
-ghost use Rattle.kms_model.specs.declared.reports.Report.{Report};
 ghost use Rattle.kms_model.specs.declared.scripts.Script.{Script};
 ghost use Rattle.kms_model.specs.Report.Right.{event_in, event_is_right, events_are_whole};
 ghost use Rattle.kms_model.specs.Report.RightAnswers.{first_off};
@@ -113,7 +112,7 @@ fn block_of(blocks: &Blocks, client: u32) -> Block
 
 impl Reader {
     /// The reader of an E line of a client: none where its client is below that of the line before.
-    fn turned(self, blocks: &Blocks, client: u32) -> Option<Reader>
+    fn turn_to(self, blocks: &Blocks, client: u32) -> Option<Reader>
         ensures { result ≡ turned self blocks.now client }
     {
         if client == self.client {
@@ -181,7 +180,7 @@ fn next_reader(
     ensures value { result ≡ next_reader reader blocks.now replies.now line.now }
     ensures within { IfSome result (λ r. r.block.end ≤ length replies.now) }
 {
-    let Some(turned) = reader.turned(blocks, line.0) else {
+    let Some(turned) = reader.turn_to(blocks, line.0) else {
         return None;
     };
     let Some((event, next)) = turned.next_event(replies) else {

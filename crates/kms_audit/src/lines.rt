@@ -21,7 +21,7 @@ pub type EventFields = (u32, Event);
 pub type FreedFields = (Seq<u8>, u32);
 
 /// What an R line says, as a reply of a machine.
-pub fn answered(line: &ReplyFields) -> Answered
+pub fn answer_of(line: &ReplyFields) -> Answered
     ensures { result ≡ answer_from line.now }
 {
     Answered {

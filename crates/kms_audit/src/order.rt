@@ -8,7 +8,7 @@ ghost use Rattle.kms_model.specs.Report.RightAnswers.{has_place, is_in_turn, is_
 ghost use Rattle.kms_model.specs.Script.WellFormed.{IsWellFormed};
 
 use crate::index::Index;
-use crate::lines::answered;
+use crate::lines::answer_of;
 use kms_model::{Answered, Report, Script, command_of};
 
 /// R lines of a client that stand behind one another: the places of the first one and behind the last one.
@@ -136,7 +136,7 @@ pub fn order_of(script: &Script, index: &Index, report: &Report) -> Ordered
     let mut blocks = [Block::NONE; 16];
     let mut before: Option<Answered> = None;
     for (place, line) in report.replies.as_slice().iter().enumerate() {
-        let a = answered(line);
+        let a = answer_of(line);
         if !stands(script, index, entries, before, &a) {
             return Ordered {
                 cut: Some(place),

@@ -1,10 +1,9 @@
 //! The commits that touched each object last.
-ghost use Rattle.std.specs.Prelude.{◌≡◌, ◌<◌, ℕ, None, slice_index_or};
-ghost use Rattle.kms_audit.specs.Touching.{is_touched_in, last_in, noted};
-ghost use Rattle.kms_model.specs.Device.Masks.{has_bit};
+ghost use Rattle.std.specs.Prelude.{◌≡◌, ◌≤◌, ℕ, None, length, slice_index_or};
+ghost use Rattle.kms_audit.specs.Touching.{IsNotedRow, is_touched_in, last_in, noted};
 ghost use Rattle.kms_model.specs.Machine.State.{has_value};
 
-use kms_model::{MAX_CONNECTORS, MAX_CRTCS, MAX_PLANES, Mask, ObjId, has_bit};
+use kms_model::{Mask, ObjId, has_bit};
 
 /// The number of the last commit that touched each object, if any, at the object's index among those of its kind.
 #[derive(Clone, Copy)]
@@ -15,7 +14,7 @@ pub struct Touches {
 }
 
 /// The last commit that touched an object, after one that may touch it.
-fn noted(last: Option<u32>, is_touched: bool, commit: u32) -> Option<u32>
+fn touch(last: Option<u32>, is_touched: bool, commit: u32) -> Option<u32>
     ensures { result ≡ noted last is_touched commit }
 {
     if is_touched { Some(commit) } else { last }
@@ -43,6 +42,17 @@ fn entry(row: &[Option<u32>], index: u32) -> Option<u32>
     row.get(index as usize).copied().unwrap_or(None)
 }
 
+/// Notes in a row of the table that a commit touched the objects of a set.
+fn note_row(row: &mut [Option<u32>], touched: u32, commit: u32)
+    requires { length row.old ≤ 16 }
+    ensures { IsNotedRow row.old row.new touched commit }
+{
+    for index in 0..row.len() {
+        let last = row[index];
+        row[index] = touch(last, has_bit(touched, index as u32), commit);
+    }
+}
+
 impl Touches {
     /// No object was touched.
     pub fn none() -> Touches
@@ -55,50 +65,14 @@ impl Touches {
         }
     }
 
-    fn note_crtcs(&mut self, mask: u32, commit: u32)
-        ensures crtcs { (i : ℕ) → i < 4 → slice_index_or self.new.crtcs i None
-            ≡ noted (slice_index_or self.old.crtcs i None) (has_bit mask i) commit }
-        ensures planes { self.new.planes ≡ self.old.planes }
-        ensures conns { self.new.conns ≡ self.old.conns }
-    {
-        for index in 0..MAX_CRTCS {
-            let last = self.crtcs[index as usize];
-            self.crtcs[index as usize] = noted(last, has_bit(mask, index), commit);
-        }
-    }
-
-    fn note_planes(&mut self, mask: u32, commit: u32)
-        ensures planes { (i : ℕ) → i < 16 → slice_index_or self.new.planes i None
-            ≡ noted (slice_index_or self.old.planes i None) (has_bit mask i) commit }
-        ensures crtcs { self.new.crtcs ≡ self.old.crtcs }
-        ensures conns { self.new.conns ≡ self.old.conns }
-    {
-        for index in 0..MAX_PLANES {
-            let last = self.planes[index as usize];
-            self.planes[index as usize] = noted(last, has_bit(mask, index), commit);
-        }
-    }
-
-    fn note_conns(&mut self, mask: u32, commit: u32)
-        ensures conns { (i : ℕ) → i < 8 → slice_index_or self.new.conns i None
-            ≡ noted (slice_index_or self.old.conns i None) (has_bit mask i) commit }
-        ensures crtcs { self.new.crtcs ≡ self.old.crtcs }
-        ensures planes { self.new.planes ≡ self.old.planes }
-    {
-        for index in 0..MAX_CONNECTORS {
-            let last = self.conns[index as usize];
-            self.conns[index as usize] = noted(last, has_bit(mask, index), commit);
-        }
-    }
-
     /// Notes that a commit, by its number from 0, touched the objects of a set.
     pub fn note(&mut self, touched: &Mask, commit: u32)
         ensures { (object : ℕ) → last_in self.new object
             ≡ noted (last_in self.old object) (is_touched_in touched.now object) commit }
     {
-        self.note_crtcs(touched.crtcs, commit);
-        self.note_planes(touched.planes, commit);
-        self.note_conns(touched.conns, commit);
+        note_row(&mut self.crtcs, touched.crtcs, commit);
+        note_row(&mut self.planes, touched.planes, commit);
+        note_row(&mut self.conns, touched.conns, commit);
     }
 
     /// The number of the last commit that touched an object; none of what is no object with a lock.

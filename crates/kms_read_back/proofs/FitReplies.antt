@@ -5,6 +5,7 @@ use Rattle.std.specs.List.{cons_option, filter_map}
 use Rattle.std.proofs.lemmas.Bool.{and_from, and_parts, false≢true, le-leb, ltb-true}
 use Rattle.std.proofs.lemmas.Nat.{mod_below}
 use Rattle.kms_model.specs.declared.objects.Format.{Format}
+use Rattle.kms_model.specs.declared.objects.Kind.{Kind}
 use Rattle.kms_model.specs.declared.objects.Kind.TheVariants.{Crtc, Plane, Conn}
 use Rattle.kms_model.specs.declared.objects.Topology.{Topology}
 use Rattle.kms_model.specs.declared.replies.Answered.{Answered}
@@ -26,7 +27,7 @@ use Rattle.kms_model.specs.Firsts.{denied_if}
 use Rattle.kms_model.specs.Things.Kept.{area_bytes, is_bad_size, largest_bytes}
 use Rattle.kms_model.specs.Script.Words.{between}
 use Rattle.kms_model.specs.Device.Execution.{BufferInfo, add_fb, all_bytes, buffer_of, close_refusal, close_unless, destroy_refusal, execute, is_blob, is_framebuffer, is_made_fence, make_unless, new_buffer_refusal, signal_refusal, signal_unless}
-use Rattle.kms_model.specs.Device.Objects.{ids_of, object_id}
+use Rattle.kms_model.specs.Device.Objects.{count_of, first_id, ids_of, object_id}
 use Rattle.kms_model.specs.Device.World.{thing_labelled}
 use Rattle.kms_model.specs.Machine.Commits.{asks_event, commit_at, commit_touches, last_below, lockable, previous}
 use Rattle.kms_model.specs.Machine.Effects.{answers, busy_reply, commit_numbered, goes_on, next, refusal_reply, signals}
@@ -146,25 +147,22 @@ last-within test (suc n) k e = by_test (test n) (λ f. last-within test n k f) e
   by_test true rest f = let same : n ≡ k = cc in omega (arith, same)
   by_test false rest f = let l = rest f in omega (arith, l)
 
+near-of : (t : Topology) (kind : Kind) (object : ℕ) → 100 ≤ first_id kind → first_id kind + count_of t kind ≤ 500
+    → IsIn object (ids_of t kind) → IsNear object
+near-of t kind object low high is =
+    let i : IsObject t kind object = ids-in t kind object is in
+    let within = i.within in let same = i.same in
+    and_from _ _ (le-leb 100 object (omega (arith, same, low))) (le-leb object 499 (omega (arith, same, within, high)))
+
 near-object : (t : Topology) (object : ℕ) → HasFewObjects t → IsIn object (lockable t) → IsNear object
 near-object t object few is =
-    ⊎_elim
-    (λ (c : IsIn object (ids_of t Crtc)).
-    let i : IsObject t Crtc object = ids-in t Crtc object c in
-    let within = i.within in let same = i.same in let most = few.crtcs in
-    and_from _ _ (le-leb 100 object (omega (arith, same))) (le-leb object 499 (omega (arith, same, within, most))))
-    (λ rest.
-    ⊎_elim
-    (λ (p : IsIn object (ids_of t Plane)).
-    let i : IsObject t Plane object = ids-in t Plane object p in
-    let within = i.within in let same = i.same in let most = few.planes in
-    and_from _ _ (le-leb 100 object (omega (arith, same))) (le-leb object 499 (omega (arith, same, within, most))))
-    (λ n.
-    let i : IsObject t Conn object = ids-in t Conn object n in
-    let within = i.within in let same = i.same in let most = few.conns in
-    and_from _ _ (le-leb 100 object (omega (arith, same))) (le-leb object 499 (omega (arith, same, within, most))))
-    (in_either (ids_of t Plane) (ids_of t Conn) object rest))
-    (in_either (ids_of t Crtc) _ object is)
+    elim (in_either (ids_of t Crtc) _ object is) [
+      | inl crtc ↦ near-of t Crtc object (omega arith) (omega (arith, few.crtcs)) crtc
+      | inr rest ↦ elim (in_either (ids_of t Plane) (ids_of t Conn) object rest) [
+        | inl plane ↦ near-of t Plane object (omega arith) (omega (arith, few.planes)) plane
+        | inr conn ↦ near-of t Conn object (omega arith) (omega (arith, few.conns)) conn
+      ]
+    ]
 
 -- Machines
 

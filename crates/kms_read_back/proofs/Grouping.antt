@@ -1,8 +1,9 @@
 -- The lines of a report stand in order, each section behind those before it, and are put together to the same report.
 use Rattle.std.proofs.Common.{◌≡◌, ℕ, ◌+◌, ◌<◌, ◌≤◌, true, List, [], ◌∷◌, ◌++◌, map, Option, Some, None, Ok, refl, ap, ◌∙◌, subst, arith, inl, inr, ⊎_elim, append-nil, append_assoc}
 use Rattle.std.specs.List.{cons_option, filter_map, flat_map}
+use Rattle.std.specs.Prelude.{nat_le}
 use Rattle.std.proofs.lemmas.Bool.{cond-true, le-leb}
-use Rattle.std.proofs.lemmas.List.Elements.{filter_map-append, recursion_from_All}
+use Rattle.std.proofs.lemmas.List.Elements.{recursion_from_All}
 use Rattle.kms_model.specs.declared.replies.Event.{Event}
 use Rattle.kms_model.specs.declared.replies.Reply.{Reply}
 use Rattle.kms_model.specs.declared.replies.Step.{Step}
@@ -94,22 +95,18 @@ end-reads e ls fits later least number le =
 
 -- What lines say
 
-module _ {A B : Type 0} (f : B → Option A) where
-  by_some : (o : Option A) (x : A) (rest all : List A) → o ≡ Some x → rest ≡ all → cons_option o rest ≡ x ∷ all
-  by_some None x rest all e r = absurd cc
-  by_some (Some y) x rest all e r = let same : y ≡ x = cc in λ i. same i ∷ r i
+-- of each item, and of none
+all : {A : Type 0} (xs : List A) → filter_map (λ x. Some x) xs ≡ xs
+all [] = refl
+all (x ∷ xs) = ap (λ ys. x ∷ ys) (all xs)
 
-  by_none : (o : Option A) (rest all : List A) → o ≡ None → rest ≡ all → cons_option o rest ≡ all
-  by_none None rest all e r = r
-  by_none (Some y) rest all e r = absurd cc
+none : {A B : Type 0} (xs : List A) → filter_map {Y = B} (λ x. None) xs ≡ []
+none [] = refl
+none (x ∷ xs) = none xs
 
-  said-all : (g : A → B) → ((x : A) → f (g x) ≡ Some x) → (xs : List A) → filter_map f (map g xs) ≡ xs
-  said-all g says_it [] = refl
-  said-all g says_it (x ∷ xs) = by_some (f (g x)) x (filter_map f (map g xs)) xs (says_it x) (said-all g says_it xs)
-
-  said-none : {C : Type 0} (g : C → B) → ((x : C) → f (g x) ≡ None) → (xs : List C) → filter_map f (map g xs) ≡ []
-  said-none g says_none [] = refl
-  said-none g says_none (x ∷ xs) = by_none (f (g x)) (filter_map f (map g xs)) [] (says_none x) (said-none g says_none xs)
+six : {A : Type 0} {a b c d e f g h j k l m : List A} → a ≡ g → b ≡ h → c ≡ j → d ≡ k → e ≡ l → f ≡ m
+    → a ++ (b ++ (c ++ (d ++ (e ++ f)))) ≡ g ++ (h ++ (j ++ (k ++ (l ++ m))))
+six p q r s t u i = p i ++ (q i ++ (r i ++ (s i ++ (t i ++ u i))))
 
 module _ (r : Report) where
   abbrev entries : List ReportLine
@@ -130,88 +127,29 @@ module _ (r : Report) where
   abbrev steps : List ReportLine
   steps = map (λ step. says.Stepped step) r.steps
 
-  -- a function of lines, section by section
+  -- a function of lines that says nothing of a D line, section by section
   module _ {A : Type 0} (f : ReportLine → Option A) where
-    sections : filter_map f (lines_of r)
-        ≡ filter_map f entries ++ (filter_map f answers ++ (filter_map f latches
-        ++ (filter_map f events ++ (filter_map f closed ++ filter_map f (says.Ended r.end ∷ steps)))))
-    sections =
-        filter_map-append f entries (answers ++ (latches ++ (events ++ (closed ++ says.Ended r.end ∷ steps))))
-        ∙ ap (λ z. filter_map f entries ++ z) (filter_map-append f answers (latches ++ (events ++ (closed ++ says.Ended r.end ∷ steps)))
-        ∙ ap (λ z. filter_map f answers ++ z) (filter_map-append f latches (events ++ (closed ++ says.Ended r.end ∷ steps))
-        ∙ ap (λ z. filter_map f latches ++ z) (filter_map-append f events (closed ++ says.Ended r.end ∷ steps)
-        ∙ ap (λ z. filter_map f events ++ z) (filter_map-append f closed (says.Ended r.end ∷ steps)))))
+    onto : (o : Option A) (xs ys : List A) → cons_option o (xs ++ ys) ≡ cons_option o xs ++ ys
+    onto None xs ys = refl
+    onto (Some x) xs ys = refl
 
-  journal-back : filter_map entry_said (lines_of r) ≡ r.journal
-  journal-back =
-      sections entry_said
-      ∙ (λ i.
-      said-all entry_said (λ (e : ℕ × ℕ). says.Entry e.0 e.1) (λ e. refl) r.journal i
-      ++ (said-none entry_said (λ (a : ℕ × ℕ × ℕ × Reply). says.Answer a.0 a.1 a.2 a.3) (λ a. refl) r.replies i
-      ++ (said-none entry_said (λ (l : ℕ × ℕ × ℕ × Option (List ℕ)). says.Latch l.0 l.1 l.2 l.3) (λ l. refl) r.latches i
-      ++ (said-none entry_said (λ (e : ℕ × Event). says.Event e.0 e.1) (λ e. refl) r.events i
-      ++ (said-none entry_said (λ (x : List ℕ × ℕ). says.Freed x.0 x.1) (λ x. refl) r.freed i
-      ++ said-none entry_said (λ (step : Step). says.Stepped step) (λ step. refl) r.steps i)))))
-      ∙ append-nil r.journal
+    said-of : {B : Type 0} (g : B → ReportLine) (xs : List B) → filter_map f (map g xs) ≡ filter_map (λ x. f (g x)) xs
+    said-of g [] = refl
+    said-of g (x ∷ xs) = ap (cons_option (f (g x))) (said-of g xs)
 
-  replies-back : filter_map answer_said (lines_of r) ≡ r.replies
-  replies-back =
-      sections answer_said
-      ∙ (λ i.
-      said-none answer_said (λ (e : ℕ × ℕ). says.Entry e.0 e.1) (λ e. refl) r.journal i
-      ++ (said-all answer_said (λ (a : ℕ × ℕ × ℕ × Reply). says.Answer a.0 a.1 a.2 a.3) (λ a. refl) r.replies i
-      ++ (said-none answer_said (λ (l : ℕ × ℕ × ℕ × Option (List ℕ)). says.Latch l.0 l.1 l.2 l.3) (λ l. refl) r.latches i
-      ++ (said-none answer_said (λ (e : ℕ × Event). says.Event e.0 e.1) (λ e. refl) r.events i
-      ++ (said-none answer_said (λ (x : List ℕ × ℕ). says.Freed x.0 x.1) (λ x. refl) r.freed i
-      ++ said-none answer_said (λ (step : Step). says.Stepped step) (λ step. refl) r.steps i)))))
-      ∙ append-nil r.replies
+    said-before : {B : Type 0} (g : B → ReportLine) (xs : List B) (ls : List ReportLine) (more : List A) → filter_map f ls ≡ more
+        → filter_map f (map g xs ++ ls) ≡ filter_map (λ x. f (g x)) xs ++ more
+    said-before g [] ls more e = e
+    said-before g (x ∷ xs) ls more e =
+        ap (cons_option (f (g x))) (said-before g xs ls more e) ∙ onto (f (g x)) (filter_map (λ y. f (g y)) xs) more
 
-  latches-back : filter_map latch_said (lines_of r) ≡ r.latches
-  latches-back =
-      sections latch_said
-      ∙ (λ i.
-      said-none latch_said (λ (e : ℕ × ℕ). says.Entry e.0 e.1) (λ e. refl) r.journal i
-      ++ (said-none latch_said (λ (a : ℕ × ℕ × ℕ × Reply). says.Answer a.0 a.1 a.2 a.3) (λ a. refl) r.replies i
-      ++ (said-all latch_said (λ (l : ℕ × ℕ × ℕ × Option (List ℕ)). says.Latch l.0 l.1 l.2 l.3) (λ l. refl) r.latches i
-      ++ (said-none latch_said (λ (e : ℕ × Event). says.Event e.0 e.1) (λ e. refl) r.events i
-      ++ (said-none latch_said (λ (x : List ℕ × ℕ). says.Freed x.0 x.1) (λ x. refl) r.freed i
-      ++ said-none latch_said (λ (step : Step). says.Stepped step) (λ step. refl) r.steps i)))))
-      ∙ append-nil r.latches
-
-  events-back : filter_map event_said (lines_of r) ≡ r.events
-  events-back =
-      sections event_said
-      ∙ (λ i.
-      said-none event_said (λ (e : ℕ × ℕ). says.Entry e.0 e.1) (λ e. refl) r.journal i
-      ++ (said-none event_said (λ (a : ℕ × ℕ × ℕ × Reply). says.Answer a.0 a.1 a.2 a.3) (λ a. refl) r.replies i
-      ++ (said-none event_said (λ (l : ℕ × ℕ × ℕ × Option (List ℕ)). says.Latch l.0 l.1 l.2 l.3) (λ l. refl) r.latches i
-      ++ (said-all event_said (λ (e : ℕ × Event). says.Event e.0 e.1) (λ e. refl) r.events i
-      ++ (said-none event_said (λ (x : List ℕ × ℕ). says.Freed x.0 x.1) (λ x. refl) r.freed i
-      ++ said-none event_said (λ (step : Step). says.Stepped step) (λ step. refl) r.steps i)))))
-      ∙ append-nil r.events
-
-  freed-back : filter_map freed_said (lines_of r) ≡ r.freed
-  freed-back =
-      sections freed_said
-      ∙ (λ i.
-      said-none freed_said (λ (e : ℕ × ℕ). says.Entry e.0 e.1) (λ e. refl) r.journal i
-      ++ (said-none freed_said (λ (a : ℕ × ℕ × ℕ × Reply). says.Answer a.0 a.1 a.2 a.3) (λ a. refl) r.replies i
-      ++ (said-none freed_said (λ (l : ℕ × ℕ × ℕ × Option (List ℕ)). says.Latch l.0 l.1 l.2 l.3) (λ l. refl) r.latches i
-      ++ (said-none freed_said (λ (e : ℕ × Event). says.Event e.0 e.1) (λ e. refl) r.events i
-      ++ (said-all freed_said (λ (x : List ℕ × ℕ). says.Freed x.0 x.1) (λ x. refl) r.freed i
-      ++ said-none freed_said (λ (step : Step). says.Stepped step) (λ step. refl) r.steps i)))))
-      ∙ append-nil r.freed
-
-  steps-back : filter_map step_said (lines_of r) ≡ r.steps
-  steps-back =
-      sections step_said
-      ∙ (λ i.
-      said-none step_said (λ (e : ℕ × ℕ). says.Entry e.0 e.1) (λ e. refl) r.journal i
-      ++ (said-none step_said (λ (a : ℕ × ℕ × ℕ × Reply). says.Answer a.0 a.1 a.2 a.3) (λ a. refl) r.replies i
-      ++ (said-none step_said (λ (l : ℕ × ℕ × ℕ × Option (List ℕ)). says.Latch l.0 l.1 l.2 l.3) (λ l. refl) r.latches i
-      ++ (said-none step_said (λ (e : ℕ × Event). says.Event e.0 e.1) (λ e. refl) r.events i
-      ++ (said-none step_said (λ (x : List ℕ × ℕ). says.Freed x.0 x.1) (λ x. refl) r.freed i
-      ++ said-all step_said (λ (step : Step). says.Stepped step) (λ step. refl) r.steps i)))))
+    sections : f (says.Ended r.end) ≡ None → filter_map f (lines_of r)
+        ≡ filter_map (λ e. f (says.Entry e.0 e.1)) r.journal ++ (filter_map (λ a. f (says.Answer a.0 a.1 a.2 a.3)) r.replies
+        ++ (filter_map (λ l. f (says.Latch l.0 l.1 l.2 l.3)) r.latches ++ (filter_map (λ e. f (says.Event e.0 e.1)) r.events
+        ++ (filter_map (λ x. f (says.Freed x.0 x.1)) r.freed ++ filter_map (λ step. f (says.Stepped step)) r.steps))))
+    sections silent =
+        said-before _ r.journal _ _ (said-before _ r.replies _ _ (said-before _ r.latches _ _ (said-before _ r.events _ _
+        (said-before _ r.freed _ _ (ap (λ o. cons_option o (filter_map f steps)) silent ∙ said-of _ r.steps)))))
 
   -- the D line is the first behind the others
   end-behind : {A : Type 0} (g : A → ReportLine) → ((x : A) (ls : List ReportLine) → end_said (g x ∷ ls) ≡ end_said ls)
@@ -222,24 +160,32 @@ module _ (r : Report) where
 
   end-back : end_said (lines_of r) ≡ r.end
   end-back =
-      end-behind (λ (e : ℕ × ℕ). says.Entry e.0 e.1) (λ e ls. refl) r.journal
-      (answers ++ (latches ++ (events ++ (closed ++ says.Ended r.end ∷ steps))))
-      ∙ (end-behind (λ (a : ℕ × ℕ × ℕ × Reply). says.Answer a.0 a.1 a.2 a.3) (λ a ls. refl) r.replies
-      (latches ++ (events ++ (closed ++ says.Ended r.end ∷ steps)))
-      ∙ (end-behind (λ (l : ℕ × ℕ × ℕ × Option (List ℕ)). says.Latch l.0 l.1 l.2 l.3) (λ l ls. refl) r.latches
-      (events ++ (closed ++ says.Ended r.end ∷ steps))
-      ∙ (end-behind (λ (e : ℕ × Event). says.Event e.0 e.1) (λ e ls. refl) r.events (closed ++ says.Ended r.end ∷ steps)
+      end-behind (λ (e : ℕ × ℕ). says.Entry e.0 e.1) (λ e ls. refl) r.journal _
+      ∙ (end-behind (λ (a : ℕ × ℕ × ℕ × Reply). says.Answer a.0 a.1 a.2 a.3) (λ a ls. refl) r.replies _
+      ∙ (end-behind (λ (l : ℕ × ℕ × ℕ × Option (List ℕ)). says.Latch l.0 l.1 l.2 l.3) (λ l ls. refl) r.latches _
+      ∙ (end-behind (λ (e : ℕ × Event). says.Event e.0 e.1) (λ e ls. refl) r.events _
       ∙ end-behind (λ (x : List ℕ × ℕ). says.Freed x.0 x.1) (λ x ls. refl) r.freed (says.Ended r.end ∷ steps))))
 
   grouped-lines : grouped (lines_of r) ≡ r
   grouped-lines = λ i. record {
-    journal = journal-back i;
-    replies = replies-back i;
-    latches = latches-back i;
-    events = events-back i;
-    freed = freed-back i;
+    journal =
+        (sections entry_said refl ∙ six (all r.journal) (none r.replies) (none r.latches) (none r.events) (none r.freed) (none r.steps)
+        ∙ append-nil r.journal) i;
+    replies =
+        (sections answer_said refl ∙ six (none r.journal) (all r.replies) (none r.latches) (none r.events) (none r.freed) (none r.steps)
+        ∙ append-nil r.replies) i;
+    latches =
+        (sections latch_said refl ∙ six (none r.journal) (none r.replies) (all r.latches) (none r.events) (none r.freed) (none r.steps)
+        ∙ append-nil r.latches) i;
+    events =
+        (sections event_said refl ∙ six (none r.journal) (none r.replies) (none r.latches) (all r.events) (none r.freed) (none r.steps)
+        ∙ append-nil r.events) i;
+    freed =
+        (sections freed_said refl ∙ six (none r.journal) (none r.replies) (none r.latches) (none r.events) (all r.freed) (none r.steps)
+        ∙ append-nil r.freed) i;
     end = end-back i;
-    steps = steps-back i;
+    steps =
+        (sections step_said refl ∙ six (none r.journal) (none r.replies) (none r.latches) (none r.events) (none r.freed) (all r.steps)) i;
   }
 
   -- Reading
@@ -254,72 +200,52 @@ module _ (r : Report) where
   digest-fits None fits = tt
   digest-fits (Some digest) fits = (fits.0, recursion_from_All (λ b. b < 256) digest fits.1)
 
+  -- the lines of one letter, each of which fits
+  of-letter : {A : Type 0} (place : ℕ) (g : A → ReportLine) → ((x : A) → least_behind (g x) ≡ place)
+      → ((x : A) (least : ℕ) → may_stand least (g x) ≡ nat_le least place) → (xs : List A)
+      → ((x : A) → IsIn x xs → IsFitLine (g x)) → AreOf place (map g xs)
+  of-letter place g behind may xs fit = record {
+    fit = each-map IsFitLine g xs fit;
+    behind = each-map (λ l. least_behind l ≡ place) g xs (λ x i. behind x);
+    may = each-map (λ l. (least : ℕ) → least ≤ place → may_stand least l ≡ true) g xs (λ x i least le. may x least ∙ le-leb least place le);
+  }
+
   module _ (F : IsFitReport r) where
     entries-of : AreOf 0 entries
-    entries-of = record {
-      fit = each-map IsFitLine (λ (e : ℕ × ℕ). says.Entry e.0 e.1) r.journal (λ e i. all_in IsFitEntry r.journal e F.journal i);
-      behind = each-map (λ l. least_behind l ≡ 0) (λ (e : ℕ × ℕ). says.Entry e.0 e.1) r.journal (λ e i. refl);
-      may = each-map (λ l. (least : ℕ) → least ≤ 0 → may_stand least l ≡ true) (λ (e : ℕ × ℕ). says.Entry e.0 e.1) r.journal
-          (λ e i least le. le-leb least 0 le);
-    }
+    entries-of = of-letter 0 _ (λ e. refl) (λ e least. refl) r.journal (λ e i. all_in IsFitEntry r.journal e F.journal i)
 
     answers-of : AreOf 1 answers
-    answers-of = record {
-      fit = each-map IsFitLine (λ (a : ℕ × ℕ × ℕ × Reply). says.Answer a.0 a.1 a.2 a.3) r.replies (λ a i. all_in IsFitAnswer r.replies a F.replies i);
-      behind = each-map (λ l. least_behind l ≡ 1) (λ (a : ℕ × ℕ × ℕ × Reply). says.Answer a.0 a.1 a.2 a.3) r.replies (λ a i. refl);
-      may = each-map (λ l. (least : ℕ) → least ≤ 1 → may_stand least l ≡ true)
-          (λ (a : ℕ × ℕ × ℕ × Reply). says.Answer a.0 a.1 a.2 a.3) r.replies
-          (λ a i least le. le-leb least 1 le);
-    }
+    answers-of = of-letter 1 _ (λ a. refl) (λ a least. refl) r.replies (λ a i. all_in IsFitAnswer r.replies a F.replies i)
 
     latches-of : AreOf 2 latches
-    latches-of = record {
-      fit = each-map IsFitLine (λ (l : ℕ × ℕ × ℕ × Option (List ℕ)). says.Latch l.0 l.1 l.2 l.3) r.latches
-          (λ l i. let f = all_in IsFitLatch r.latches l F.latches i in (f.0, f.1, f.2, digest-fits l.3 f.3));
-      behind = each-map (λ l. least_behind l ≡ 2) (λ (l : ℕ × ℕ × ℕ × Option (List ℕ)). says.Latch l.0 l.1 l.2 l.3) r.latches (λ l i. refl);
-      may = each-map (λ l. (least : ℕ) → least ≤ 2 → may_stand least l ≡ true)
-          (λ (l : ℕ × ℕ × ℕ × Option (List ℕ)). says.Latch l.0 l.1 l.2 l.3) r.latches
-          (λ l i least le. le-leb least 2 le);
-    }
+    latches-of =
+        of-letter 2 _ (λ l. refl) (λ l least. refl) r.latches
+        (λ l i. let f = all_in IsFitLatch r.latches l F.latches i in (f.0, f.1, f.2, digest-fits l.3 f.3))
 
     events-of : AreOf 3 events
-    events-of = record {
-      fit = each-map IsFitLine (λ (e : ℕ × Event). says.Event e.0 e.1) r.events (λ e i. all_in IsFitTold r.events e F.events i);
-      behind = each-map (λ l. least_behind l ≡ 3) (λ (e : ℕ × Event). says.Event e.0 e.1) r.events (λ e i. refl);
-      may = each-map (λ l. (least : ℕ) → least ≤ 3 → may_stand least l ≡ true) (λ (e : ℕ × Event). says.Event e.0 e.1) r.events
-          (λ e i least le. le-leb least 3 le);
-    }
+    events-of = of-letter 3 _ (λ e. refl) (λ e least. refl) r.events (λ e i. all_in IsFitTold r.events e F.events i)
 
     freed-of : AreOf 4 closed
-    freed-of = record {
-      fit = each-map IsFitLine (λ (x : List ℕ × ℕ). says.Freed x.0 x.1) r.freed (λ x i. all_in IsFitFreed r.freed x F.freed i);
-      behind = each-map (λ l. least_behind l ≡ 4) (λ (x : List ℕ × ℕ). says.Freed x.0 x.1) r.freed (λ x i. refl);
-      may = each-map (λ l. (least : ℕ) → least ≤ 4 → may_stand least l ≡ true) (λ (x : List ℕ × ℕ). says.Freed x.0 x.1) r.freed
-          (λ x i least le. le-leb least 4 le);
-    }
+    freed-of = of-letter 4 _ (λ x. refl) (λ x least. refl) r.freed (λ x i. all_in IsFitFreed r.freed x F.freed i)
 
     steps-fit : Fit steps
     steps-fit = each-map IsFitLine (λ (step : Step). says.Stepped step) r.steps (λ step i. all_in IsFitStep r.steps step F.steps i)
 
     lines-read : Reads 0 (lines_of r)
     lines-read =
-        section 0 entries (answers ++ (latches ++ (events ++ (closed ++ says.Ended r.end ∷ steps)))) entries-of
-        (earlier 0 1 _ (omega arith) (section 1 answers (latches ++ (events ++ (closed ++ says.Ended r.end ∷ steps))) answers-of
-        (earlier 1 2 _ (omega arith) (section 2 latches (events ++ (closed ++ says.Ended r.end ∷ steps)) latches-of
-        (earlier 2 3 _ (omega arith) (section 3 events (closed ++ says.Ended r.end ∷ steps) events-of
-        (earlier 3 4 _ (omega arith) (section 4 closed (says.Ended r.end ∷ steps) freed-of
-        (earlier 4 5 _ (omega arith) (end-reads r.end steps F.end (steps-read r.steps steps-fit)))))))))))
+        section 0 entries _ entries-of (earlier 0 1 _ (omega arith)
+        (section 1 answers _ answers-of (earlier 1 2 _ (omega arith)
+        (section 2 latches _ latches-of (earlier 2 3 _ (omega arith)
+        (section 3 events _ events-of (earlier 3 4 _ (omega arith)
+        (section 4 closed _ freed-of (earlier 4 5 _ (omega arith) (end-reads r.end steps F.end (steps-read r.steps steps-fit)))))))))))
 
     both-fit : (xs ys : List ReportLine) → Fit xs → Fit ys → Fit (xs ++ ys)
     both-fit xs ys a b l i = ⊎_elim (λ (x : IsIn l xs). a l x) (λ y. b l y) (in_either xs ys l i)
 
     all-fit : Fit (lines_of r)
     all-fit =
-        both-fit entries (answers ++ (latches ++ (events ++ (closed ++ says.Ended r.end ∷ steps)))) entries-of.fit
-        (both-fit answers (latches ++ (events ++ (closed ++ says.Ended r.end ∷ steps))) answers-of.fit
-        (both-fit latches (events ++ (closed ++ says.Ended r.end ∷ steps)) latches-of.fit
-        (both-fit events (closed ++ says.Ended r.end ∷ steps) events-of.fit
-        (both-fit closed (says.Ended r.end ∷ steps) freed-of.fit
+        both-fit entries _ entries-of.fit (both-fit answers _ answers-of.fit (both-fit latches _ latches-of.fit
+        (both-fit events _ events-of.fit (both-fit closed _ freed-of.fit
         (λ l i. ⊎_elim (λ (e : says.Ended r.end ≡ l). subst IsFitLine e F.end) (λ later. steps-fit l later) i)))))
 
     pub read-back : report_read (report_text r) ≡ Ok r

@@ -24,7 +24,7 @@ use Rattle.kms_model.specs.Script.Grammar.{is_printable}
 use Rattle.kms_model.specs.Script.Schedules.{IsFitIndex, IsFitNumber, IsFitStep, greatest_number}
 use Rattle.kms_model.specs.Script.Words.{label_at}
 use Rattle.kms_words.specs.Printed.{fields}
-use Rattle.kms_commands.proofs.Spaced.{line-fields}
+use Rattle.kms_words.proofs.Spaced.{line-fields}
 use Rattle.kms_script.proofs.Cutting.{field_of, number_of}
 use Rattle.kms_script.proofs.StepsRead.{line_is_read}
 use Rattle.kms_read_back.specs.ReadBack.{IsFitEnd, IsFitEvent, IsFitLabel, IsFitReply, IsLong}
@@ -137,13 +137,8 @@ words-plain (says.Ended end) fits = end-plain end fits
 words-plain (says.Stepped step) fits = step-plain step fits
 
 letter-plain : (l : ReportLine) → list_all is_printable (letter_of l) ≡ true
-letter-plain (says.Entry client command) = refl
-letter-plain (says.Answer client command place answer) = refl
-letter-plain (says.Latch crtc commit count digest) = refl
-letter-plain (says.Event client event) = refl
-letter-plain (says.Freed label id) = refl
-letter-plain (says.Ended end) = refl
 letter-plain (says.Stepped step) = refl
+letter-plain l = refl
 
 pub body-plain : (l : ReportLine) → IsFitLine l → list_all is_printable (body_of l) ≡ true
 body-plain l fits =

@@ -1,5 +1,5 @@
 -- Each reply that a line can spell is read back.
-use Rattle.std.proofs.Common.{◌≡◌, ℕ, ◌-◌, ◌<◌, ◌≤◌, true, false, List, [], ◌∷◌, Some, None, refl, sym, ap, ◌∙◌, subst, arith, ⊎_elim}
+use Rattle.std.proofs.Common.{◌≡◌, ℕ, ◌+◌, ◌-◌, ◌<◌, ◌≤◌, true, false, List, [], ◌∷◌, Some, None, refl, sym, ap, ◌∙◌, subst, arith, inl, inr}
 use Rattle.std.specs.Prelude.{codes, nat_le, not, option_map}
 use Rattle.std.specs.Fmt.{decimal, digits}
 use Rattle.std.specs.List.{list_all}
@@ -137,63 +137,30 @@ pub record IsNamed (id : ℕ) : Type 0 where
   pub low : index < 100
   pub is_id : object_id kind index ≡ id
 
+named-as : (kind : Kind) (id : ℕ) → kind_of id ≡ kind → first_id kind ≤ id → id < first_id kind + 100 → IsNamed id
+named-as kind id is_kind from to_ = record {
+  kind = kind;
+  index = id - first_id kind;
+  is_kind = is_kind;
+  is_index = ap (λ k. id - first_id k) is_kind;
+  low = omega (arith, from, to_);
+  is_id = omega (arith, from);
+}
+
 pub named-near : (id : ℕ) → IsNear id → IsNamed id
 named-near id near =
     let two = and_parts (nat_le 100 id) (nat_le id 499) near in
-    let from = leb-true 100 id two.0 in
     let to_ = leb-true id 499 two.1 in
-    ⊎_elim
-    (λ (lt : id < 200).
-    let kind : kind_of id ≡ Crtc = rw (lt-ltb id 200 lt) refl in
-    record {
-      kind = Crtc;
-      index = id - 100;
-      is_kind = kind;
-      is_index = ap (λ k. id - first_id k) kind;
-      low =
-          omega (arith, from, lt);
-      is_id = omega (arith, from);
-    })
-    (λ ge.
-    ⊎_elim
-    (λ (lt : id < 300).
-    let kind : kind_of id ≡ Plane = rw (le-ltb id 200 ge, lt-ltb id 300 lt) refl in
-    record {
-      kind = Plane;
-      index = id - 200;
-      is_kind = kind;
-      is_index = ap (λ k. id - first_id k) kind;
-      low =
-          omega (arith, ge, lt);
-      is_id = omega (arith, ge);
-    })
-    (λ ge2.
-    ⊎_elim
-    (λ (lt : id < 400).
-    let kind : kind_of id ≡ Conn = rw (le-ltb id 200 ge, le-ltb id 300 ge2, lt-ltb id 400 lt) refl in
-    record {
-      kind = Conn;
-      index = id - 300;
-      is_kind = kind;
-      is_index = ap (λ k. id - first_id k) kind;
-      low =
-          omega (arith, ge2, lt);
-      is_id = omega (arith, ge2);
-    })
-    (λ ge3.
-    let kind : kind_of id ≡ Enc = rw (le-ltb id 200 ge, le-ltb id 300 ge2, le-ltb id 400 ge3) refl in
-    record {
-      kind = Enc;
-      index = id - 400;
-      is_kind = kind;
-      is_index = ap (λ k. id - first_id k) kind;
-      low =
-          omega (arith, ge3, to_);
-      is_id = omega (arith, ge3);
-    })
-    (cases_lt id 400))
-    (cases_lt id 300))
-    (cases_lt id 200)
+    elim (cases_lt id 200) [
+      | inl lt ↦ named-as Crtc id (rw (lt-ltb id 200 lt) refl) (leb-true 100 id two.0) lt
+      | inr ge ↦ elim (cases_lt id 300) [
+        | inl lt ↦ named-as Plane id (rw (le-ltb id 200 ge, lt-ltb id 300 lt) refl) ge lt
+        | inr ge2 ↦ elim (cases_lt id 400) [
+          | inl lt ↦ named-as Conn id (rw (le-ltb id 200 ge, le-ltb id 300 ge2, lt-ltb id 400 lt) refl) ge2 lt
+          | inr ge3 ↦ named-as Enc id (rw (le-ltb id 200 ge, le-ltb id 300 ge2, le-ltb id 400 ge3) refl) ge3 (omega (arith, to_))
+        ]
+      ]
+    ]
 
 object-back : (kind : Kind) (index : ℕ) → index ≤ 255 → object (named_object kind index) ≡ Some (kind, index)
 unfolding object

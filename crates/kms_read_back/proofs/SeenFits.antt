@@ -76,15 +76,7 @@ each-in-blocks P f (k ∷ ks) each y is =
 
 event-of : (r : Reply) (e : Event) → event_in r ≡ Some e → IsFitReply r → IsFitEvent e
 event-of (reply.Event f) e is fits = let same : f ≡ e = cc in subst IsFitEvent same fits
-event-of (reply.Made id) e is fits = absurd cc
-event-of reply.Done e is fits = absurd cc
-event-of (reply.Commit k) e is fits = absurd cc
-event-of reply.Tested e is fits = absurd cc
-event-of (reply.Refused n) e is fits = absurd cc
-event-of (reply.Space used) e is fits = absurd cc
-event-of (reply.Busy o k) e is fits = absurd cc
-event-of (reply.Denied n) e is fits = absurd cc
-event-of reply.NoEvent e is fits = absurd cc
+event-of r e is fits = absurd cc
 
 module _ (s : Script) (h : List Step) (trace : Bool) (formed : IsWellFormed s) (is : is_history s h ≡ true)
     (short : IsLong (length h)) where

@@ -117,13 +117,8 @@ rows-wrong d number row rows none = ap
 
 -- the least letter behind a line that was read
 least_with : (d : Said) (l : ReportLine) → (with_said d l).least ≡ least_behind l
-least_with d (says.Entry client command) = refl
-least_with d (says.Answer client command place answer) = refl
-least_with d (says.Latch crtc commit count digest) = refl
-least_with d (says.Event client event) = refl
-least_with d (says.Freed label id) = refl
 least_with d (says.Ended end) = refl
-least_with d (says.Stepped step) = refl
+least_with d l = refl
 
 pub rows-next : (d new : Said) (number : ℕ) (row : Row) (rows : List Row) (l : ReportLine) → new ≡ with_said d l → is_sound d ≡ true
     → report_row_read d.least row ≡ Some l

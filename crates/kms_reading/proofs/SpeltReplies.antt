@@ -1,5 +1,5 @@
 -- A reply that was read of the fields at the end of a line is written as these fields.
-use Rattle.std.proofs.Common.{◌≡◌, ℕ, ◌+◌, ◌<◌, inl, inr, Bool, true, false, List, [], ◌∷◌, ◌++◌, cond, Option, Some, None, refl, sym, ap, ◌∙◌, subst, arith}
+use Rattle.std.proofs.Common.{◌≡◌, ℕ, ◌<◌, inl, inr, Bool, true, false, List, [], ◌∷◌, ◌++◌, cond, Option, Some, refl, sym, ap, ◌∙◌, subst, arith}
 use Rattle.std.specs.Prelude.{codes, nat_lt, option_map, if◌then◌else◌}
 use Rattle.std.specs.Fmt.{decimal, digits}
 use Rattle.std.specs.Str.{bytes_eq}
@@ -8,11 +8,10 @@ use Rattle.kms_model.specs.declared.objects.Kind.{Kind}
 use Rattle.kms_model.specs.declared.replies.Event.{Event}
 use Rattle.kms_model.specs.declared.replies.Reply.{Reply}
 use Rattle.kms_model.specs.declared.replies.Reply.TheVariants as reply
-use Rattle.kms_model.specs.Device.Objects.{index_of, kind_of, object_id}
+use Rattle.kms_model.specs.Device.Objects.{object_id}
 use Rattle.kms_model.specs.Report.Replies.{kind_name, object_name, reply_words}
 use Rattle.kms_model.specs.Report.ReplyFields.{busy_read, event_fields, lone_number, lone_reply, named_id, numbered_reply, refusal_numbered, refusal_read, reply_of_word, reply_read, space_read, word32_at, word64_at}
 use Rattle.kms_model.specs.Report.Rules.{ENOMEM, EBUSY, errno_of}
-use Rattle.kms_model.specs.Request.Sets.{obj_id}
 use Rattle.kms_model.specs.Script.Grammar.{object}
 use Rattle.kms_model.specs.Script.Schedules.{greatest_number}
 use Rattle.kms_model.specs.Script.Words.{between, end_at, field_at, strip}
@@ -20,7 +19,7 @@ use Rattle.kms_model.proofs.KindsOfIds.{index_of-object, kind_of-object}
 use Rattle.kms_script.proofs.Inverted.{choice_some, from_bind, if_some, map_some, some_same}
 use Rattle.kms_script.proofs.LineFields.{end_spelt, field_spelt, fields_to, strip_spelt, then_fields}
 use Rattle.kms_script.proofs.SpeltFields.{dec_at_spelt}
-use Rattle.kms_script.proofs.SpeltWords.{found, object_spelt, object_word}
+use Rattle.kms_script.proofs.SpeltWords.{found, object_spelt}
 use Rattle.kms_reading.specs.Spelt.{IsNearReply}
 
 -- Numbers

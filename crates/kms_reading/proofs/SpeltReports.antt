@@ -1,10 +1,9 @@
 -- A report that was read has its lines in order, and its text is what was read.
 use Rattle.std.proofs.Common.{◌≡◌, ℕ, ◌+◌, ◌<◌, ◌≤◌, Bool, true, false, List, [], ◌∷◌, ◌++◌, map, Option, Some, None, Ok, Err, refl, sym, ap, ◌∙◌, subst, arith}
-use Rattle.std.specs.Prelude.{◌==◌, Result, All, nat_le, if◌then◌else◌, ⊤}
+use Rattle.std.specs.Prelude.{◌==◌, Result, All, if◌then◌else◌}
 use Rattle.std.specs.List.{AllByRecursion, cons_option, filter_map, flat_map}
 use Rattle.std.proofs.lemmas.Bool.{and_from, eqb-true, leb-true}
 use Rattle.std.proofs.lemmas.List.Elements.{recursion_from_All}
-use Rattle.kms_model.specs.declared.reports.End.{End}
 use Rattle.kms_model.specs.declared.reports.Report.{Report}
 use Rattle.kms_model.specs.declared.reports.ReportLine.{ReportLine}
 use Rattle.kms_model.specs.declared.reports.ReportLine.TheVariants as says
@@ -32,13 +31,8 @@ may-least least (says.Ended end) may = leb-true least 5 may
 may-least least (says.Stepped step) may = let same = eqb-true least 6 may in omega (arith, same)
 
 letter-behind : (l : ReportLine) → letter_place l ≤ least_behind l
-letter-behind (says.Entry client command) = omega arith
-letter-behind (says.Answer client command place answer) = omega arith
-letter-behind (says.Latch crtc commit count digest) = omega arith
-letter-behind (says.Event client event) = omega arith
-letter-behind (says.Freed label id) = omega arith
 letter-behind (says.Ended end) = omega arith
-letter-behind (says.Stepped step) = omega arith
+letter-behind l = omega arith
 
 none-first : {B : Type 0} (o : Option B) (rest : List B) → o ≡ None → rest ≡ [] → cons_option o rest ≡ []
 none-first None rest e f = f
@@ -56,48 +50,23 @@ module _ {B : Type 0} (said : ReportLine → Option B) (place : ℕ) (skips : (l
 
 skips-entry : (l : ReportLine) → 0 < letter_place l → entry_said l ≡ None
 skips-entry (says.Entry client command) past = absurd (omega (arith, past))
-skips-entry (says.Answer client command place answer) past = refl
-skips-entry (says.Latch crtc commit count digest) past = refl
-skips-entry (says.Event client event) past = refl
-skips-entry (says.Freed label id) past = refl
-skips-entry (says.Ended end) past = refl
-skips-entry (says.Stepped step) past = refl
+skips-entry l past = refl
 
 skips-answer : (l : ReportLine) → 1 < letter_place l → answer_said l ≡ None
-skips-answer (says.Entry client command) past = refl
 skips-answer (says.Answer client command place answer) past = absurd (omega (arith, past))
-skips-answer (says.Latch crtc commit count digest) past = refl
-skips-answer (says.Event client event) past = refl
-skips-answer (says.Freed label id) past = refl
-skips-answer (says.Ended end) past = refl
-skips-answer (says.Stepped step) past = refl
+skips-answer l past = refl
 
 skips-latch : (l : ReportLine) → 2 < letter_place l → latch_said l ≡ None
-skips-latch (says.Entry client command) past = refl
-skips-latch (says.Answer client command place answer) past = refl
 skips-latch (says.Latch crtc commit count digest) past = absurd (omega (arith, past))
-skips-latch (says.Event client event) past = refl
-skips-latch (says.Freed label id) past = refl
-skips-latch (says.Ended end) past = refl
-skips-latch (says.Stepped step) past = refl
+skips-latch l past = refl
 
 skips-event : (l : ReportLine) → 3 < letter_place l → event_said l ≡ None
-skips-event (says.Entry client command) past = refl
-skips-event (says.Answer client command place answer) past = refl
-skips-event (says.Latch crtc commit count digest) past = refl
 skips-event (says.Event client event) past = absurd (omega (arith, past))
-skips-event (says.Freed label id) past = refl
-skips-event (says.Ended end) past = refl
-skips-event (says.Stepped step) past = refl
+skips-event l past = refl
 
 skips-freed : (l : ReportLine) → 4 < letter_place l → freed_said l ≡ None
-skips-freed (says.Entry client command) past = refl
-skips-freed (says.Answer client command place answer) past = refl
-skips-freed (says.Latch crtc commit count digest) past = refl
-skips-freed (says.Event client event) past = refl
 skips-freed (says.Freed label id) past = absurd (omega (arith, past))
-skips-freed (says.Ended end) past = refl
-skips-freed (says.Stepped step) past = refl
+skips-freed l past = refl
 
 no-entries : (least : ℕ) (ls : List ReportLine) → 0 < least → IsOrdered least ls
     → map (λ e. says.Entry e.0 e.1) (filter_map entry_said ls) ≡ []
@@ -124,13 +93,8 @@ no-freed least ls past ordered = ap (map (λ x. says.Freed x.0 x.1)) (none-later
 -- behind the D line there are T lines alone
 steps-back : (ls : List ReportLine) → IsOrdered 6 ls → map (λ step. says.Stepped step) (filter_map step_said ls) ≡ ls
 steps-back [] ordered = refl
-steps-back (says.Entry client command ∷ ls) ordered = let may = ordered.0 in absurd cc
-steps-back (says.Answer client command place answer ∷ ls) ordered = let may = ordered.0 in absurd cc
-steps-back (says.Latch crtc commit count digest ∷ ls) ordered = let may = ordered.0 in absurd cc
-steps-back (says.Event client event ∷ ls) ordered = let may = ordered.0 in absurd cc
-steps-back (says.Freed label id ∷ ls) ordered = let may = ordered.0 in absurd cc
-steps-back (says.Ended end ∷ ls) ordered = let may = ordered.0 in absurd cc
 steps-back (says.Stepped step ∷ ls) ordered = ap (λ all. says.Stepped step ∷ all) (steps-back ls ordered.1)
+steps-back (l ∷ ls) ordered = let may = ordered.0 in absurd cc
 
 -- a line moves before parts that are empty
 behind-one : (l : ReportLine) (a x : List ReportLine) → a ≡ [] → a ++ l ∷ x ≡ l ∷ (a ++ x)
@@ -231,11 +195,7 @@ AreNear ls = AllByRecursion (λ a. IsNearReply a.3) (filter_map answer_said ls)
 near-first : (l : ReportLine) (ls : List ReportLine) → AreNear (l ∷ ls) → IsNearLine l × AreNear ls
 near-first (says.Entry client command) ls near = (tt, near)
 near-first (says.Answer client command place answer) ls near = (near.0, near.1)
-near-first (says.Latch crtc commit count digest) ls near = (tt, near)
-near-first (says.Event client event) ls near = (tt, near)
-near-first (says.Freed label id) ls near = (tt, near)
-near-first (says.Ended end) ls near = (tt, near)
-near-first (says.Stepped step) ls near = (tt, near)
+near-first l ls near = (tt, near)
 
 -- rows that were read as lines in order
 record AreLines (least : ℕ) (rows : List Row) (ls : List ReportLine) : Type 0 where

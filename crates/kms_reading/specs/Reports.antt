@@ -1,11 +1,11 @@
 -- What the reader of reports answers, and what it holds between two lines.
-use Rattle.std.specs.Prelude.{◌≡◌, ℕ, Bool, true, false, ◌==◌, List, [], ◌∷◌, ◌++◌, Option, Some, None, Result, Ok, Err, is_some, if◌then◌else◌, not, ⊤}
+use Rattle.std.specs.Prelude.{◌≡◌, ℕ, Bool, ◌==◌, List, [], ◌∷◌, ◌++◌, Option, Some, None, Result, Ok, Err, is_some, if◌then◌else◌, not, ⊤}
 use Rattle.std.specs.List.{filter_map}
 use Rattle.kms_model.specs.declared.reports.End.{End}
 use Rattle.kms_model.specs.declared.reports.Report.{Report}
 use Rattle.kms_model.specs.declared.reports.ReportLine.{ReportLine}
 use Rattle.kms_model.specs.declared.reports.ReportLine.TheVariants as says
-use Rattle.kms_model.specs.Report.ReportLines.{answer_said, end_said, entry_said, event_said, freed_said, latch_said, least_behind, step_said}
+use Rattle.kms_model.specs.Report.ReportLines.{answer_said, end_said, entry_said, event_said, freed_said, latch_said, step_said}
 use Rattle.kms_reading.specs.declared.reports.ReportError.{ReportError}
 use Rattle.kms_reading.specs.declared.reports.ReportError.TheVariants as errors
 use Rattle.kms_reading.specs.declared.reports.Said.{Said}

@@ -56,7 +56,7 @@ fn lone_reply(answer: Reply, bytes: &[u8]) -> Option<Reply>
 
 /// `events 25 USED`, behind the name of the error number.
 #[tactic(auto, unfolding(kms_model::specs::Report::ReplyFields::space_read, kms_model::specs::Report::ReplyFields::numbered_reply))]
-fn space_read(bytes: &[u8]) -> Option<Reply>
+fn read_space(bytes: &[u8]) -> Option<Reply>
     ensures { result ≡ space_read bytes.now }
 {
     let fields = strip(b" events 25", bytes)?;
@@ -77,7 +77,7 @@ fn named_id(kind: Kind, index: u32) -> ObjId
 
 /// `26 OBJ COMMIT`, behind the name of the error number. Any object of the grammar may stand there.
 #[tactic(auto, unfolding(kms_model::specs::Report::ReplyFields::busy_read, kms_model::specs::Report::ReplyFields::numbered_reply))]
-fn busy_read(bytes: &[u8]) -> Option<Reply>
+fn read_busy(bytes: &[u8]) -> Option<Reply>
     ensures { result ≡ busy_read bytes.now }
 {
     let fields = strip(b" 26", bytes)?;
@@ -101,7 +101,7 @@ fn errno_of(number: u32) -> &'static str
 }
 
 /// A refusal by its number alone: 1 to 24 of a request, 31 to 35 of another command.
-fn refusal_numbered(number: u32) -> Option<Reply>
+fn refusal_of(number: u32) -> Option<Reply>
     ensures { result ≡ refusal_numbered number }
 {
     if number >= 1 && number <= 24 {
@@ -115,12 +115,12 @@ fn refusal_numbered(number: u32) -> Option<Reply>
 
 /// The number of a refusal, behind the name of its error number and no other.
 #[tactic(auto, unfolding(kms_model::specs::Report::ReplyFields::refusal_read))]
-fn refusal_read(errno: &[u8], bytes: &[u8]) -> Option<Reply>
+fn read_refusal(errno: &[u8], bytes: &[u8]) -> Option<Reply>
     ensures { result ≡ refusal_read errno.now bytes.now }
 {
     let number = lone_number(bytes)?;
     if errno == errno_of(number).as_bytes() {
-        refusal_numbered(number)
+        refusal_of(number)
     } else {
         None
     }
@@ -128,7 +128,7 @@ fn refusal_read(errno: &[u8], bytes: &[u8]) -> Option<Reply>
 
 /// `made ID`, behind its word.
 #[tactic(auto, unfolding(kms_model::specs::Report::ReplyFields::numbered_reply))]
-fn made_read(bytes: &[u8]) -> Option<Reply>
+fn read_made(bytes: &[u8]) -> Option<Reply>
     ensures { result ≡ numbered_reply (λ id. reply.Made id) bytes.now }
 {
     let id = lone_number(bytes)?;
@@ -137,7 +137,7 @@ fn made_read(bytes: &[u8]) -> Option<Reply>
 
 /// `commit K`, behind its word.
 #[tactic(auto, unfolding(kms_model::specs::Report::ReplyFields::numbered_reply))]
-fn commit_read(bytes: &[u8]) -> Option<Reply>
+fn read_commit(bytes: &[u8]) -> Option<Reply>
     ensures { result ≡ numbered_reply (λ k. reply.Commit k) bytes.now }
 {
     let commit = lone_number(bytes)?;
@@ -145,7 +145,7 @@ fn commit_read(bytes: &[u8]) -> Option<Reply>
 }
 
 /// `event USERDATA SEQUENCE CRTCID`, behind its word.
-fn event_read(bytes: &[u8]) -> Option<Reply>
+fn read_event(bytes: &[u8]) -> Option<Reply>
     ensures { result ≡ option_map (λ e. reply.Event e) (event_fields bytes.now) }
 {
     match event_fields(bytes) {
@@ -155,15 +155,15 @@ fn event_read(bytes: &[u8]) -> Option<Reply>
 }
 
 /// The reply that begins with the name of an error number.
-fn refused(word: &[u8], fields: &[u8]) -> Option<Reply>
+fn read_error(word: &[u8], fields: &[u8]) -> Option<Reply>
     ensures { result ≡ refused_reply word.now fields.now }
 {
     if word == b"ENOMEM".as_slice() {
-        space_read(fields)
+        read_space(fields)
     } else if word == b"EBUSY".as_slice() {
-        busy_read(fields)
+        read_busy(fields)
     } else {
-        refusal_read(word, fields)
+        read_refusal(word, fields)
     }
 }
 
@@ -173,19 +173,19 @@ fn reply_of_word(word: &[u8], fields: &[u8]) -> Option<Reply>
     ensures { result ≡ reply_of_word word.now fields.now }
 {
     if word == b"made".as_slice() {
-        made_read(fields)
+        read_made(fields)
     } else if word == b"done".as_slice() {
         lone_reply(Reply::Done, fields)
     } else if word == b"commit".as_slice() {
-        commit_read(fields)
+        read_commit(fields)
     } else if word == b"tested".as_slice() {
         lone_reply(Reply::Tested, fields)
     } else if word == b"event".as_slice() {
-        event_read(fields)
+        read_event(fields)
     } else if word == b"none".as_slice() {
         lone_reply(Reply::NoEvent, fields)
     } else {
-        refused(word, fields)
+        read_error(word, fields)
     }
 }
 

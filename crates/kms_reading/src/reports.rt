@@ -65,7 +65,7 @@ impl Said {
     }
 
     /// A line more.
-    fn put(&mut self, line: ReportLine) -> Result<(), NoMemory>
+    fn push(&mut self, line: ReportLine) -> Result<(), NoMemory>
         ensures { OnOk result (self.new ≡ with_said self.old line) }
     {
         self.least = least_behind(&line);
@@ -144,7 +144,7 @@ pub fn parse_report(alloc: Global, bytes: &[u8]) -> Result<Report, ReportError>
         let Some(one) = read_row(alloc, said.least, &row)? else {
             return Err(ReportError::BadLine { line });
         };
-        said.put(one)?;
+        said.push(one)?;
         line += 1;
         rest = after;
     }

@@ -50,16 +50,10 @@ StandsAlone s journal client r (Some c) = IsDenied s journal client r c
 pub denied-alone : (s : Script) (journal : List Entry) (client : ℕ) (r : Reply) (c : Command) → is_making c ≡ true
     → IsDenied s journal client r c
     → StandsAlone s journal client r (Some c)
-denied-alone s journal client r (command.Buffer label width height format pattern) making d = d
-denied-alone s journal client r (command.AddFb label buffer) making d = d
-denied-alone s journal client r (command.Mode label m) making d = d
-denied-alone s journal client r (command.Blob label bytes) making d = d
-denied-alone s journal client r (command.Destroy label) making d = d
-denied-alone s journal client r (command.CloseFb label) making d = d
-denied-alone s journal client r (command.Fence label) making d = d
 denied-alone s journal client r (command.Signal label) making d = absurd (false≢true making)
 denied-alone s journal client r (command.Atomic q) making d = absurd (false≢true making)
 denied-alone s journal client r command.Wait making d = absurd (false≢true making)
+denied-alone s journal client r c making d = d
 
 pub signal-alone : (s : Script) (journal : List Entry) (client : ℕ) (r : Reply) (c : Command) → is_signal c ≡ true
     → r ≡ executed_after s journal client c

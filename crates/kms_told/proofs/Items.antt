@@ -57,11 +57,11 @@ pub position-cons : {A : Type 0} (p : A → Bool) (x : A) (xs : List A)
     → position p (x ∷ xs) ≡ cond (p x) (Some 0) (option_map (λ place. place + 1) (position p xs))
 position-cons p x xs = at_cons (p x) (prefix_len (λ y. not (p y)) xs) (length xs)
 
-abbrev or_place : Option ℕ → Option ℕ → Option ℕ
+abbrev pub or_place : Option ℕ → Option ℕ → Option ℕ
 or_place None b = b
 or_place (Some a) b = Some a
 
-abbrev place_if : Bool → ℕ → Option ℕ
+abbrev pub place_if : Bool → ℕ → Option ℕ
 place_if b n = cond b (Some n) None
 
 pushed_one : (b : Bool) → cond b (Some 0) (option_map (λ place. place + 1) None) ≡ place_if b 0
@@ -76,7 +76,7 @@ pushed_more false c (Some m) n = refl
 pushed_more false true None n = ap Some (omega arith)
 pushed_more false false None n = refl
 
-position-push : {A : Type 0} (p : A → Bool) (xs : List A) (y : A)
+pub position-push : {A : Type 0} (p : A → Bool) (xs : List A) (y : A)
     → position p (xs ++ y ∷ []) ≡ or_place (position p xs) (place_if (p y) (length xs))
 position-push p [] y = position-cons p y [] ∙ pushed_one (p y)
 position-push p (x ∷ xs) y =

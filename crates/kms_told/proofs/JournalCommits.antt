@@ -43,16 +43,8 @@ commits-more s w journal cs e c is_serial is before =
     ∙ (λ i. reverse (commit_of_request (is_serial i) e (request_in (is i))) ++ before i)
 
 request-none : (c : Command) → is_atomic c ≡ false → request_in (Some c) ≡ None
-request-none (command.Buffer label width height format pattern) other = refl
-request-none (command.AddFb label buffer) other = refl
-request-none (command.Mode label m) other = refl
-request-none (command.Blob label bytes) other = refl
-request-none (command.Destroy label) other = refl
-request-none (command.CloseFb label) other = refl
-request-none (command.Fence label) other = refl
-request-none (command.Signal label) other = refl
 request-none (command.Atomic r) other = absurd (false≢true (sym other))
-request-none command.Wait other = refl
+request-none c other = refl
 
 -- Steps
 

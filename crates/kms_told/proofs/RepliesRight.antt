@@ -42,18 +42,12 @@ module _ (s : Script) (r : Report) (a : Answered) where
   -- a reply to an entry
   device-right : (c : Command) → is_wait c ≡ false → is_signal c ≡ false → is_devices_reply s r a c ≡ true
       → reply_is_right_to s r a (Some c) ≡ true
-  device-right (command.Buffer label width height format pattern) wait signal d = d
-  device-right (command.AddFb label buffer) wait signal d = d
-  device-right (command.Mode label m) wait signal d = d
-  device-right (command.Blob label bytes) wait signal d = d
-  device-right (command.Destroy label) wait signal d = d
-  device-right (command.CloseFb label) wait signal d = d
-  device-right (command.Fence label) wait signal d = d
   device-right (command.Signal label) wait signal d = absurd (false≢true (sym signal))
   device-right (command.Atomic q) wait signal d =
       or_left (is_devices_reply s r a (command.Atomic q))
       (not (is_to_entry r a) && is_refused_late_at s (take a.place (entries_in r)) q a.reply) d
   device-right command.Wait wait signal d = absurd (false≢true (sym wait))
+  device-right c wait signal d = d
 
   entered-right : is_to_entry r a ≡ true → EntersAs s (take a.place (entries_in r)) a.client a.reply (command_of s (entry_answered a))
       → reply_is_right_to s r a (command_of s (entry_answered a)) ≡ true

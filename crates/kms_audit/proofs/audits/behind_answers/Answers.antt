@@ -2,7 +2,7 @@ use Rattle.std.proofs.Common.{◌≡◌, ◌+◌, ap, arith, sym, ◌∙◌}
 use Rattle.kms_audit.proofs.Parted.{answers-left, latch-wrong, latches-right, off-few}
 use Rattle.kms_audit.proofs.Spelt.{spelt-few}
 use Rattle.kms_audit.specs.Sections.{behind_answers, behind_latches}
-use Rattle.kms_model.specs.Report.Right.{latch_from, latch_is_right, latches_in}
+use Rattle.kms_model.specs.Report.Right.{latch_from}
 use Rattle.kms_things.proofs.MadeLemmas.{if_ok}
 use Rattle.std.proofs.lemmas.List.{length-map}
 use Rattle.kms_audit.proofs.audits.behind_answers.Goals as goal
@@ -14,15 +14,9 @@ returns-then-not-is_nothing c =
 
 pub overflow_add-line : goal.overflow_add-line
 overflow_add-line c =
-    let s = c.args.script.now in
     let r = c.args.report.now in
-    omega (
-      arith,
-      c.requires.few,
-      spelt-few r c.requires.spelt,
-      length-map r.latches latch_from,
-      off-few (latch_is_right s r) (latches_in r) c.in-Some.place (sym c.in-Some.is ∙ c.latches_off-latch.ensures),
-    )
+    let few = off-few _ _ c.in-Some.place (sym c.in-Some.is ∙ c.latches_off-latch.ensures) in
+    omega (arith, c.requires.few, spelt-few r c.requires.spelt, length-map r.latches latch_from, few)
 
 pub returns-in-Some : goal.returns-in-Some
 returns-in-Some c =

@@ -3,7 +3,7 @@ use Rattle.kms_audit.proofs.Parted.{answer-wrong, answers-right, off-few}
 use Rattle.kms_audit.proofs.Spelt.{spelt-few}
 use Rattle.kms_audit.specs.Sections.{behind_answers}
 use Rattle.kms_model.specs.Report.Right.{first_wrong}
-use Rattle.kms_model.specs.Report.RightAnswers.{answer_from, answer_is_right, answers_in}
+use Rattle.kms_model.specs.Report.RightAnswers.{answer_from}
 use Rattle.kms_things.proofs.MadeLemmas.{if_ok}
 use Rattle.std.proofs.lemmas.List.{length-map}
 use Rattle.kms_audit.proofs.audits.behind_entries.Goals as goal
@@ -13,16 +13,10 @@ overflow_add-first c = omega (arith, spelt-few c.args.report.now c.requires.spel
 
 pub overflow_add-line : goal.overflow_add-line
 overflow_add-line c =
-    let s = c.args.script.now in
     let r = c.args.report.now in
-    let off = c.answers_off-off.ensures s c.requires.audited c.requires.walked in
-    omega (
-      arith,
-      spelt-few r c.requires.spelt,
-      c.len-first.ensures,
-      length-map r.replies answer_from,
-      off-few (answer_is_right s r) (answers_in r) c.in-Some.place (sym c.in-Some.is ∙ off),
-    )
+    let off = c.answers_off-off.ensures c.args.script.now c.requires.audited c.requires.walked in
+    let few = off-few _ _ c.in-Some.place (sym c.in-Some.is ∙ off) in
+    omega (arith, spelt-few r c.requires.spelt, c.len-first.ensures, length-map r.replies answer_from, few)
 
 pub returns-in-Some : goal.returns-in-Some
 returns-in-Some c =

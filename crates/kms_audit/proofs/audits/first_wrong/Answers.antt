@@ -1,7 +1,7 @@
 use Rattle.std.proofs.Common.{arith, sym, ◌∙◌}
 use Rattle.kms_audit.proofs.Parted.{entry-wrong, off-few}
 use Rattle.kms_audit.proofs.Spelt.{spelt-few}
-use Rattle.kms_model.specs.Report.RightAnswers.{entries_in, entry_from, entry_is_right}
+use Rattle.kms_model.specs.Report.RightAnswers.{entry_from}
 use Rattle.std.proofs.lemmas.List.{length-map}
 use Rattle.kms_audit.proofs.audits.first_wrong.Goals as goal
 
@@ -14,12 +14,8 @@ through-requires-clause-few c = omega (arith, spelt-few c.args.report.now c.requ
 pub overflow_add-line : goal.overflow_add-line
 overflow_add-line c =
     let r = c.args.report.now in
-    omega (
-      arith,
-      spelt-few r c.requires.spelt,
-      length-map r.journal entry_from,
-      off-few (entry_is_right c.args.script.now) (entries_in r) c.in-Some.place (sym c.in-Some.is ∙ c.in_ok-off.ensures.off),
-    )
+    let few = off-few _ _ c.in-Some.place (sym c.in-Some.is ∙ c.in_ok-off.ensures.off) in
+    omega (arith, spelt-few r c.requires.spelt, length-map r.journal entry_from, few)
 
 pub returns-in-Some : goal.returns-in-Some
 returns-in-Some c = entry-wrong c.args.script.now c.args.report.now c.in-Some.place (sym c.in-Some.is ∙ c.in_ok-off.ensures.off)

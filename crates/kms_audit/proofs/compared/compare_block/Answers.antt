@@ -8,7 +8,7 @@ lines-init c = record {
   end = refl;
   least = omega arith;
   most = λ proper. proper;
-  told = λ r index same at. nothing-compared c.args.script.now r c.args.block.now.next c.args.differing;
+  told = λ r index same at. nothing-compared c.args.standing.now.script.now r c.args.block.now.next c.args.differing;
 }
 
 pub lines-preserved : goal.lines-preserved
@@ -19,11 +19,12 @@ lines-preserved c =
       least = omega (arith, inv.least);
       most = λ proper. omega arith;
       told = λ r index same at.
-          block-more c.args.script.now r c.args.replies.now same c.lines.block.next _
+          block-more c.args.standing.now.script.now r c.args.replies.now same c.lines.block.next _
           (omega arith) c.args.block.now.next inv.least c.args.differing c.lines.first
           c.with_line-first.result (inv.told r index same at)
           (c.with_line-first.ensures r index
-          (subst (λ p. IsAt c.args.script.now r p c.args.serial.now c.args.touches.now) (omega arith) at));
+          (subst (λ p. IsAt c.args.standing.now.script.now r p c.args.standing.now.serial.now c.args.standing.now.touches.now)
+          (omega arith) at));
     }
 
 pub returns-else-replies-block : goal.returns-else-replies-block
@@ -34,7 +35,7 @@ returns-else-replies-block c = λ r index same at.
       least = inv.least;
       most = inv.most;
       stops = λ a opened g here.
-          line-stops c.args.script.now r c.args.replies.now same c.lines.block.next _ (omega arith) c.args.place
+          line-stops c.args.standing.now.script.now r c.args.replies.now same c.lines.block.next _ (omega arith) c.args.place
           c.if-replies-block.false a g here;
       differing = inv.told r index same at;
     }

@@ -11,8 +11,9 @@ invariant-lines l = record {
   end : l.block.end ≡ l.initial.block.end;
   least : l.initial.block.next ≤ l.block.next;
   most : l.initial.block.next ≤ l.initial.block.end → l.block.next ≤ l.block.end;
-  told : (r : Report) → IsIndexOf r l.index → r.replies ≡ l.replies → IsAt l.script r l.place l.serial l.touches
-      → l.first ≡ earliest l.fn.differing (wrong_between l.script r l.initial.block.next l.block.next);
+  told : (r : Report) → IsIndexOf r l.standing.index.now → r.replies ≡ l.replies
+      → IsAt l.standing.script.now r l.place l.standing.serial.now l.standing.touches.now
+      → l.first ≡ earliest l.fn.differing (wrong_between l.standing.script.now r l.initial.block.next l.block.next);
 }
 
 abbrev pub decreases-lines : goal.decreases-lines

@@ -1,4 +1,4 @@
-use Rattle.std.proofs.Common.{[], ap, arith, cond, not, rules, true, ◌∙◌}
+use Rattle.std.proofs.Common.{◌≡◌, [], ap, arith, cond, get_or, not, rules, true, ◌∙◌}
 use Rattle.std.specs.BTreeMap.{is_at}
 use Rattle.std.specs.BTreeSet as sorted
 use Rattle.std.specs.Ordering.{nat_cmp}
@@ -8,6 +8,25 @@ use Rattle.kms_model.specs.Device.World.{thing_with_id}
 use Rattle.kms_model.specs.Report.Right.{freed_is_right, is_closed_framebuffer}
 use Rattle.kms_model.specs.Report.RightAnswers.{first_off}
 use Rattle.kms_audit.proofs.freed.freed_off.Goals as goal
+use Rattle.kms_audit.proofs.freed.freed_off.Goals.{After-is_closed_framebuffer-closed, In_ok-added}
+
+-- the id was none before
+added : (c : In_ok-added) → c.in_ok-added.added
+    ≡ not (sorted.contains nat_cmp c.loop-place.named (get_or c.args.lines.now c.loop-place.place c.index-lines-place.result).1)
+added c =
+    c.in_ok-added.ensures.added ∙ ap (λ (y : FreedFields). not (sorted.contains nat_cmp c.loop-place.named y.1)) c.index-lines-place.is
+
+-- the thing is a closed framebuffer
+closed : (c : After-is_closed_framebuffer-closed) → c.is_closed_framebuffer-closed.result
+    ≡ is_closed_framebuffer c.args.script.now.names (get_or c.args.lines.now c.loop-place.place c.index-lines-place.result).0
+    (thing_with_id c.args.serial.now.world.things (get_or c.args.lines.now c.loop-place.place c.index-lines-place.result).1)
+closed c =
+    let names = c.args.script.now.names in
+    let things = c.args.serial.now.world.things in
+    let x = c.index-lines-place.result in
+    c.is_closed_framebuffer-closed.ensures
+    ∙ (ap (λ label. is_closed_framebuffer names label (thing_with_id things x.1)) c.as_slice.ensures.value
+    ∙ ap (λ (y : FreedFields). is_closed_framebuffer names y.0 (thing_with_id things y.1)) c.index-lines-place.is)
 
 pub loop-place-init : goal.loop-place-init
 loop-place-init c = record {
@@ -18,8 +37,7 @@ loop-place-init c = record {
 pub returns-then-not-added : goal.returns-then-not-added
 returns-then-not-added c = λ r behind same.
     let x = c.index-lines-place.result in
-    let is = c.in_ok-added.ensures.added
-    ∙ ap (λ (y : FreedFields). not (sorted.contains nat_cmp c.loop-place.named y.1)) c.index-lines-place.is in
+    let is = added (goal.at.returns-then-not-added c).In_ok-added in
     freed-again c.args.script.now r c.args.serial.now behind c.args.lines.now c.loop-place.place
     (c.loop-place.invariant.rest r behind) x c.loop-place.named
     (omega arith) c.loop-place.invariant.ids c.in_ok-added.added is same c.if-not-added.true
@@ -27,14 +45,8 @@ returns-then-not-added c = λ r behind same.
 pub returns-then-not-closed : goal.returns-then-not-closed
 returns-then-not-closed c = λ r behind same.
     let x = c.index-lines-place.result in
-    let is = c.in_ok-added.ensures.added
-    ∙ ap (λ (y : FreedFields). not (sorted.contains nat_cmp c.loop-place.named y.1)) c.index-lines-place.is in
-    let told =
-    c.is_closed_framebuffer-closed.ensures
-    ∙ (ap (λ label. is_closed_framebuffer c.args.script.now.names label (thing_with_id c.args.serial.now.world.things x.1))
-    c.as_slice.ensures.value
-    ∙ ap (λ (y : FreedFields). is_closed_framebuffer c.args.script.now.names y.0 (thing_with_id c.args.serial.now.world.things y.1))
-    c.index-lines-place.is) in
+    let is = added (goal.at.returns-then-not-closed c).In_ok-added in
+    let told = closed (goal.at.returns-then-not-closed c).After-is_closed_framebuffer-closed in
     freed-off c.args.script.now r c.args.serial.now behind c.args.lines.now c.loop-place.place
     (c.loop-place.invariant.rest r behind) x c.loop-place.named
     (omega arith) c.loop-place.invariant.ids c.in_ok-added.added is c.if-not-added.false c.is_closed_framebuffer-closed.result told
@@ -43,14 +55,8 @@ returns-then-not-closed c = λ r behind same.
 pub loop-place-preserved : goal.loop-place-preserved
 loop-place-preserved c =
     let x = c.index-lines-place.result in
-    let is = c.in_ok-added.ensures.added
-    ∙ ap (λ (y : FreedFields). not (sorted.contains nat_cmp c.loop-place.named y.1)) c.index-lines-place.is in
-    let told =
-    c.is_closed_framebuffer-closed.ensures
-    ∙ (ap (λ label. is_closed_framebuffer c.args.script.now.names label (thing_with_id c.args.serial.now.world.things x.1))
-    c.as_slice.ensures.value
-    ∙ ap (λ (y : FreedFields). is_closed_framebuffer c.args.script.now.names y.0 (thing_with_id c.args.serial.now.world.things y.1))
-    c.index-lines-place.is) in
+    let is = added (goal.at.loop-place-preserved c).In_ok-added in
+    let told = closed (goal.at.loop-place-preserved c).After-is_closed_framebuffer-closed in
     record {
       rest = λ r behind.
           freed-rest c.args.script.now r c.args.serial.now behind c.args.lines.now c.loop-place.place

@@ -1,4 +1,4 @@
-use Rattle.std.proofs.Common.{◌≡◌, ◌+◌, length, sym, subst, ap, ◌∙◌, arith, rules}
+use Rattle.std.proofs.Common.{◌≡◌, length, sym, subst, ap, ◌∙◌, arith, rules}
 use Rattle.kms_model.specs.Report.ReportLines.{report_lines_read}
 use Rattle.kms_model.specs.Script.InputLines.{rows_of}
 use Rattle.kms_reading.specs.Reports.{Reads, continued, is_sound}
@@ -29,11 +29,11 @@ lines-preserved c =
     let read = sym c.in_ok-one.ensures ∙ c.in-Some.is in
     record {
       read =
-          rows-next c.lines.said c.put.new.self c.lines.line row rows c.in-Some.one c.in_ok-put.ensures c.lines.invariant.sound read
+          rows-next c.lines.said c.push.new.self c.lines.line row rows c.in-Some.one c.in_ok-push.ensures c.lines.invariant.sound read
           ∙ (sym (ap (λ rs. continued c.lines.said (report_lines_read c.lines.said.least c.lines.line rs)) c.split_line.ensures.rows)
           ∙ c.lines.invariant.read);
       sound =
-          sound-with c.lines.said c.put.new.self c.in-Some.one c.in_ok-put.ensures c.lines.invariant.sound
+          sound-with c.lines.said c.push.new.self c.in-Some.one c.in_ok-push.ensures c.lines.invariant.sound
           (row-stands c.lines.said.least row c.in-Some.one read);
       number = omega (arith, c.split_line.ensures.shorter, c.lines.invariant.number);
     }
