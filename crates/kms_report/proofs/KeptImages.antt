@@ -19,7 +19,8 @@ use Rattle.kms_kept_frames.specs.Screens.{Has, IsKeptFrameOf, IsKeptFrameOver, A
 use Rattle.kms_report.specs.Images.{IsPushed, KeepsImages, ShowsKept}
 
 -- what a choice comes to, by its test
-choice : (b : Bool) (x y : Option Seen) (s : Seen) (Z : Type 0) → (b ≡ true → x ≡ Some s → Z) → (b ≡ false → y ≡ Some s → Z) → cond b x y ≡ Some s → Z
+choice : (b : Bool) (x y : Option Seen) (s : Seen) (Z : Type 0) → (b ≡ true → x ≡ Some s → Z) → (b ≡ false → y ≡ Some s → Z)
+    → cond b x y ≡ Some s → Z
 choice true x y s Z one other h = one refl h
 choice false x y s Z one other h = other refl h
 
@@ -45,7 +46,13 @@ shown-still old new (On p) keeps can = λ k d within.
     let one = can k d within in
     record {
       placed = one.placed;
-      image = record { seen = one.image.seen; found = keeps _ one.image.seen one.image.found; width = one.image.width; height = one.image.height; words = one.image.words };
+      image = record {
+        seen = one.image.seen;
+        found = keeps _ one.image.seen one.image.found;
+        width = one.image.width;
+        height = one.image.height;
+        words = one.image.words;
+      };
     }
 
 pub kept-still : (old new : List FbImage) (s : Screen) → KeepsImages old new → ShowsKept old s → ShowsKept new s
@@ -57,7 +64,8 @@ kept-still old new s keeps shows =
 abbrev IsImageIn : List Thing → FbImage → Type 0
 IsImageIn things i = image_of things i.fb ≡ Some (image_seen i.image)
 
-among : (things : List Thing) (images : List FbImage) (fb : ℕ) (s : Seen) → AreImagesIn things images → seen_under images fb ≡ Some s → image_of things fb ≡ Some s
+among : (things : List Thing) (images : List FbImage) (fb : ℕ) (s : Seen) → AreImagesIn things images → seen_under images fb ≡ Some s
+    → image_of things fb ≡ Some s
 among things [] fb s are h = cc
 among things (j ∷ js) fb s are h =
     choice (eqb j.fb fb) (Some (image_seen j.image)) (seen_under js fb) s (image_of things fb ≡ Some s)
@@ -65,13 +73,20 @@ among things (j ∷ js) fb s are h =
     (λ is rest. among things js fb s (All-tail (IsImageIn things) j js are) rest)
     h
 
-can-be-shown : (things : List Thing) (images : List FbImage) (p : Picture) → AreImagesIn things images → CanShow images p → EachCanBeShown things p
+can-be-shown : (things : List Thing) (images : List FbImage) (p : Picture) → AreImagesIn things images → CanShow images p
+    → EachCanBeShown things p
 can-be-shown things images Off are can = tt
 can-be-shown things images (On p) are can = λ k d within.
     let one = can k d within in
     record {
       placed = one.placed;
-      words = record { seen = one.image.seen; found = among things images _ one.image.seen are one.image.found; width = one.image.width; height = one.image.height; words = one.image.words };
+      words = record {
+        seen = one.image.seen;
+        found = among things images _ one.image.seen are one.image.found;
+        width = one.image.width;
+        height = one.image.height;
+        words = one.image.words;
+      };
     }
 
 module _ (things : List Thing) (images : List FbImage) (are : AreImagesIn things images) where
@@ -101,6 +116,7 @@ module _ (things : List Thing) (images : List FbImage) (are : AreImagesIn things
   showing-of (Err e) p both = both
 
 -- either of the two stands
-pub kept-stands : (things : List Thing) (s : Screen) (k : KeptFrame) → AreKeptFramesOf things s → (k ≡ s.first) ⊎ (k ≡ s.second) → IsKeptFrameOf things k
+pub kept-stands : (things : List Thing) (s : Screen) (k : KeptFrame) → AreKeptFramesOf things s → (k ≡ s.first) ⊎ (k ≡ s.second)
+    → IsKeptFrameOf things k
 kept-stands things s k stands (inl is) = subst (IsKeptFrameOf things) (sym is) stands.first
 kept-stands things s k stands (inr is) = subst (IsKeptFrameOf things) (sym is) stands.second

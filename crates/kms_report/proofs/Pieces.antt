@@ -25,7 +25,8 @@ one_more {A} F joins xs i d front before after within so_far more =
     more ∙ ap (λ (text : List ℕ). text ++ F (x ∷ [])) so_far ∙ append_assoc front (F (take i xs)) (F (x ∷ []))
     ∙ ap (λ (text : List ℕ). front ++ text) (sym (joins (take i xs) (x ∷ [])) ∙ ap F (sym longer))
 
-pub at_last : {A : Type 0} (F : List A → List ℕ) (xs : List A) (i : ℕ) (front before : List ℕ) → length xs ≤ i → before ≡ front ++ F (take i xs) → before ≡ front ++ F xs
+pub at_last : {A : Type 0} (F : List A → List ℕ) (xs : List A) (i : ℕ) (front before : List ℕ) → length xs ≤ i
+    → before ≡ front ++ F (take i xs) → before ≡ front ++ F xs
 at_last {A} F xs i front before past so_far = so_far ∙ ap (λ (ys : List A). front ++ F ys) (take_all i xs past)
 
 -- the items that pass a test, each as a text

@@ -8,7 +8,8 @@ use Rattle.kms_model.specs.Report.TextLines.{line}
 line-spaced : (ws : List (List ℕ)) → line ws ≡ spaced ws ++ 10 ∷ []
 line-spaced [] = refl
 line-spaced (w ∷ []) = refl
-line-spaced (w ∷ v ∷ ws) = ap (λ (rest : List ℕ). w ++ 32 ∷ rest) (line-spaced (v ∷ ws)) ∙ sym (append_assoc w (32 ∷ spaced (v ∷ ws)) (10 ∷ []))
+line-spaced (w ∷ v ∷ ws) =
+    ap (λ (rest : List ℕ). w ++ 32 ∷ rest) (line-spaced (v ∷ ws)) ∙ sym (append_assoc w (32 ∷ spaced (v ∷ ws)) (10 ∷ []))
 
 behind : (w : List ℕ) (ws : List (List ℕ)) → w ++ 32 ∷ line ws ≡ w ++ 32 ∷ (spaced ws ++ 10 ∷ [])
 behind w ws = ap (λ (rest : List ℕ). w ++ 32 ∷ rest) (line-spaced ws)

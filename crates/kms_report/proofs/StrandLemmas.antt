@@ -19,14 +19,15 @@ pub from_place : (things : List Thing) (crtc : ℕ) (strand : Strand) (latches :
 unfolding strand_digests
 from_place things crtc strand latches strands k l m within beside = rw (drop_more latches k l within, drop_more strands k m beside) refl
 
--- one latch more is told
-pub one_more : (things : List Thing) (crtc : ℕ) (strand : Strand) (latches : List Latch) (strands : List Strand) (k : ℕ) (l : Latch) (m : Strand)
+-- one latch more of the strand is told
+pub one_more : (things : List Thing) (crtc : ℕ) (strand : Strand) (latches : List Latch) (strands : List Strand)
+    (k : ℕ) (l : Latch) (m : Strand)
     → k < length latches → k < length strands → (old new whole : List (List ℕ)) (own : Bool) (latch : Latch)
     → old ++ strand_digests things crtc strand (drop k latches) (drop k strands) ≡ whole
-    → own ≡ is_strand strand (get_or strands k m) → latch ≡ get_or latches k l
-    → new ≡ old ++ latch_digests things crtc own latch
+    → own ≡ is_strand strand (get_or strands k m) → own ≡ true → latch ≡ get_or latches k l
+    → new ≡ old ++ latch_digests things crtc true latch
     → new ++ strand_digests things crtc strand (drop (k + 1) latches) (drop (k + 1) strands) ≡ whole
-one_more things crtc strand latches strands k l m within beside old new whole own latch told owns is grows =
+one_more things crtc strand latches strands k l m within beside old new whole own latch told owns on is grows =
     ap (λ (d : List (List ℕ)). d ++ behind) (grows ∙ ap (λ (d : List (List ℕ)). old ++ d) same)
     ∙ append_assoc old (latch_digests things crtc (is_strand strand (get_or strands k m)) (get_or latches k l)) behind
     ∙ ap (λ (d : List (List ℕ)). old ++ d) (sym (from_place things crtc strand latches strands k l m within beside))
@@ -35,12 +36,14 @@ one_more things crtc strand latches strands k l m within beside old new whole ow
     behind : List (List ℕ)
     behind = strand_digests things crtc strand (drop (k + 1) latches) (drop (k + 1) strands)
 
-    same : latch_digests things crtc own latch ≡ latch_digests things crtc (is_strand strand (get_or strands k m)) (get_or latches k l)
-    same = rw (owns, is) refl
+    same : latch_digests things crtc true latch ≡ latch_digests things crtc (is_strand strand (get_or strands k m)) (get_or latches k l)
+    same = rw (sym owns ∙ on, is) refl
 
 -- no latch is left
-pub all_told : (things : List Thing) (crtc : ℕ) (strand : Strand) (latches : List Latch) (strands : List Strand) (k : ℕ) → length latches ≤ k
-    → (digests whole : List (List ℕ)) → digests ++ strand_digests things crtc strand (drop k latches) (drop k strands) ≡ whole → digests ≡ whole
+pub all_told : (things : List Thing) (crtc : ℕ) (strand : Strand) (latches : List Latch) (strands : List Strand) (k : ℕ)
+    → length latches ≤ k
+    → (digests whole : List (List ℕ)) → digests ++ strand_digests things crtc strand (drop k latches) (drop k strands) ≡ whole
+    → digests ≡ whole
 unfolding strand_digests
 all_told things crtc strand latches strands k past digests whole told =
     sym (append-nil digests) ∙ ap (λ (d : List (List ℕ)). digests ++ d) (sym nothing) ∙ told
@@ -66,10 +69,24 @@ pub other_first : (things : List Thing) (crtc : ℕ) (strand : Strand) (latches 
 other_first things crtc strand latches strands k l m within beside other =
     from_place things crtc strand latches strands k l m within beside ∙ rw other refl
 
+-- a latch of the other strand is passed over
+pub one_passed : (things : List Thing) (crtc : ℕ) (strand : Strand) (latches : List Latch) (strands : List Strand)
+    (k : ℕ) (l : Latch) (m : Strand)
+    → k < length latches → k < length strands → (digests whole : List (List ℕ)) (own : Bool)
+    → digests ++ strand_digests things crtc strand (drop k latches) (drop k strands) ≡ whole
+    → own ≡ is_strand strand (get_or strands k m) → own ≡ false
+    → digests ++ strand_digests things crtc strand (drop (k + 1) latches) (drop (k + 1) strands) ≡ whole
+one_passed things crtc strand latches strands k l m within beside digests whole own told owns off =
+    ap (λ (d : List (List ℕ)). digests ++ d)
+    (sym (other_first things crtc strand latches strands k l m within beside (sym owns ∙ off)))
+    ∙ told
+
 -- the lines of a CRTC's latches, up to one more of the latches
-pub one_line_more : (m : Machine) (pixmap : Bool) (latches : List Latch) (crtc k : ℕ) (l : Latch) → k < length latches → (front before after : List ℕ) (latch : Latch)
+pub one_line_more : (m : Machine) (pixmap : Bool) (latches : List Latch) (crtc k : ℕ) (l : Latch) → k < length latches
+    → (front before after : List ℕ) (latch : Latch)
     → latch ≡ get_or latches k l → before ≡ front ++ latches_text m pixmap (take k latches) crtc
     → after ≡ before ++ latches_text m pixmap (latch ∷ []) crtc → after ≡ front ++ latches_text m pixmap (take (k + 1) latches) crtc
 one_line_more m pixmap latches crtc k l within front before after latch is told more =
-    one_piece_more (λ (ls : List Latch). latches_text m pixmap ls crtc) (latches-join m pixmap crtc) latches k l front before after within told
+    one_piece_more (λ (ls : List Latch). latches_text m pixmap ls crtc)
+    (latches-join m pixmap crtc) latches k l front before after within told
     (more ∙ ap (λ (x : Latch). before ++ latches_text m pixmap (x ∷ []) crtc) is)

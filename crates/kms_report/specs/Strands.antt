@@ -15,7 +15,8 @@ latch_digests things crtc is_own l = if is_own && is_lit crtc l then sha256 (fra
 unfoldable pub strand_digests : List Thing → ℕ → Strand → List Latch → List Strand → List (List ℕ)
 strand_digests things crtc strand [] strands = []
 strand_digests things crtc strand (l ∷ latches) [] = []
-strand_digests things crtc strand (l ∷ latches) (m ∷ strands) = latch_digests things crtc (is_strand strand m) l ++ strand_digests things crtc strand latches strands
+strand_digests things crtc strand (l ∷ latches) (m ∷ strands) =
+    latch_digests things crtc (is_strand strand m) l ++ strand_digests things crtc strand latches strands
 
 -- the digests that are still to be told begin with that of a latch, where the latch is one of a CRTC and on, and then others
 abbrev pub Begins : List Thing → ℕ → Latch → List (List ℕ) → List (List ℕ) → Type 0

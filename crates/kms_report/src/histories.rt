@@ -160,11 +160,10 @@ pub fn report(
     report_by(&OneThread, alloc, script, core, options)
 }
 
-/// The same report, made by several threads that only compute: the first frame of a CRTC row by row in two for each
-/// processor, up to 64. Where its first two frames have a quarter of a MiB or more, and none is wanted as a pixmap, two
-/// strands share out its pictures, and each makes its own frames side by side with the other, each of the one before it.
-/// Else each frame of another size or with another gamma table is made like the first, and two digests at a
-/// time.
+/// The same report, made by several threads that only compute: one for each processor shares the rows of a frame. Where the first two
+/// frames of a CRTC have a quarter of a MiB or more, and none is wanted as a pixmap, two strands share out its pictures. Each makes
+/// its own frames side by side with the other, each of the one before it, and has half of the threads for their rows.
+/// Else two digests are made at a time.
 pub fn report_with<R: Threads + Sync>(
     rt: &R,
     alloc: Global,

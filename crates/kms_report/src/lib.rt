@@ -1,5 +1,5 @@
 //! The report of a history: its text, with the digest of each frame and, where it is asked for, the frame itself as a portable
-//! pixmap.
+//! pixmap. Who reads reports has `parse_report` from here too.
 #![tactic(auto)]
 
 ghost use Rattle.std.specs.Prelude.{◌≡◌, ◌*◌, length, IfOk};
@@ -26,6 +26,7 @@ use kms_compose::Frame;
 use kms_kept_frames::digest_of;
 pub use kms_kept_frames::{OneThread, SeveralThreads};
 use kms_model::{NoMemory, Seq};
+pub use kms_reading::{ReportError, parse_report};
 pub use makers::MakesReports;
 pub use replies::replies_text;
 use std::alloc::Global;

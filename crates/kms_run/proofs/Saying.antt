@@ -24,7 +24,8 @@ pub short-input : (input : List ℕ) (parts : Parts) → input_of part.Report in
 unfolding input_of
 short-input input parts is = by_size (nat_lt input_limit (length input)) refl is where
   by_size : (long : Bool) → nat_lt input_limit (length input) ≡ long
-      → (if long then Err (record { line = 0; why = Limit }) else parts_after part.Report (length input) blank_draft 1 (rows_of input)) ≡ Ok parts
+      → (if long then Err (record { line = 0; why = Limit }) else parts_after part.Report (length input) blank_draft 1 (rows_of input))
+      ≡ Ok parts
       → length input ≤ input_limit
   by_size true same is = absurd cc
   by_size false same is = ltb-false input_limit (length input) same
@@ -39,8 +40,10 @@ pub spelt-behind : (input : List ℕ) (parts : Parts) (r : Report) → input_of 
 spelt-behind input parts r is read = record { bytes = drop parts.rest input; short = short-behind input parts is; read = read }
 
 pub says-compared : (input : List ℕ) (parts : Parts) (r : Report) (result : Result (Unit {0}) NoYes)
-    → input_of part.Report input ≡ Ok parts → report_read (drop parts.rest input) ≡ Ok r → Compares parts.script r result → SaysOf input result
-says-compared input parts r (Ok x) spelled read right = record { parts = parts; spelled = spelled; right = ap (wrong_in parts.script) read ∙ right }
+    → input_of part.Report input ≡ Ok parts → report_read (drop parts.rest input) ≡ Ok r → Compares parts.script r result
+    → SaysOf input result
+says-compared input parts r (Ok x) spelled read right =
+    record { parts = parts; spelled = spelled; right = ap (wrong_in parts.script) read ∙ right }
 says-compared input parts r (Err (stops.Wrong line)) spelled read wrong =
     record { parts = parts; spelled = spelled; wrong = ap (wrong_in parts.script) read ∙ wrong }
 says-compared input parts r (Err (stops.Fault line why)) spelled read never = absurd never

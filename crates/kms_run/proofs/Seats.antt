@@ -98,12 +98,6 @@ done_next : {A B C : Type 0} (f : A → C) (g : B → C) (done : List A) (x : A)
 done_next f g [] x y rest e = ap (λ c. c ∷ map g rest) e
 done_next f g (a ∷ done) x y rest e = ap (λ cs. f a ∷ cs) (done_next f g done x y rest e)
 
--- one more of the names, in their order, is that of an item that is done
-pub one_more : {A B C : Type 0} (f : A → C) (g : B → C) (done after : List A) (x : A) (y : B) (left rest : List B) (names : List C)
-    → map f done ++ map g left ≡ names → left ≡ y ∷ rest → f x ≡ g y → after ≡ done ++ x ∷ [] → map f after ++ map g rest ≡ names
-one_more f g done after x y left rest names was next same pushed =
-    ap (λ xs. map f xs ++ map g rest) pushed ∙ (done_next f g done x y rest same ∙ (sym (ap (λ ys. map f done ++ map g ys) next) ∙ was))
-
 -- where none is left, all names are those of what is done
 pub all_done : {A B C : Type 0} (f : A → C) (g : B → C) (done all : List A) (left : List B) (size : ℕ) (names : List C)
     → map f done ++ map g left ≡ names → size ≡ 0 → size ≡ length left → all ≡ done → map f all ≡ names

@@ -82,7 +82,7 @@ fn said_of(answer: Audit) -> Result<(), NoYes>
 }
 
 /// Whether the lines of a report are those of a script, by the device of one thread.
-fn compared(alloc: Global, script: &Script, report: &Report) -> Result<(), NoYes>
+fn compare(alloc: Global, script: &Script, report: &Report) -> Result<(), NoYes>
     requires formed { IsWellFormed script.now }
     requires spelt { IsSpelt report.now }
     ensures { Compares script.now report.now result }
@@ -96,5 +96,5 @@ pub fn answer_audit(alloc: Global, input: &[u8]) -> Result<(), NoYes>
 {
     let parsed = parse(alloc, input, Part::Report)?;
     let report = parse_report(alloc, behind(input, parsed.rest))?;
-    compared(alloc, &parsed.script, &report)
+    compare(alloc, &parsed.script, &report)
 }

@@ -5,6 +5,7 @@ ghost use Rattle.kms_core.specs.Run.{machine};
 ghost use Rattle.kms_model.specs.Machine.Histories.{is_drained};
 ghost use Rattle.kms_model.specs.Script.Generated.{generated};
 ghost use Rattle.kms_model.specs.Script.Spelling.{Spells};
+ghost use Rattle.kms_model.specs.Script.WellFormed.{IsWellFormed};
 ghost use Rattle.kms_run.specs.Counting.{tells};
 ghost use Rattle.kms_run.specs.Summary as said;
 ghost use Rattle.kms_run.specs.Words.{HasFewCommits};
@@ -13,7 +14,7 @@ use crate::words::{Generation, NO_OPTIONS};
 use kms_core::Core;
 use kms_gen::generate;
 use kms_kept_frames::digest_of;
-use kms_model::{Answered, NoMemory, Reply, Seq};
+use kms_model::{Answered, NoMemory, Reply, Script, Seq};
 use kms_one_thread::finish;
 use kms_report::report_with;
 use kms_script::print;
@@ -112,12 +113,21 @@ fn summary<R: Threads + Sync>(rt: &R, alloc: Global, core: &Core) -> Result<Seq<
     Ok(Seq::from_vec(text.into_bytes()))
 }
 
+/// The generated script that is asked for, of which a machine can be made.
+fn asked_script(alloc: Global, asks: &Generation) -> Result<Script, NoMemory>
+    requires { HasFewCommits asks.now }
+    ensures exact { IfOk result (λ s. s ≡ generated asks.now.seed asks.now.commits) }
+    ensures formed { IfOk result IsWellFormed }
+{
+    generate(alloc, asks.seed, asks.commits)
+}
+
 /// The text of a generated script.
 fn script_text(alloc: Global, asks: &Generation) -> Result<Seq<u8>, NoMemory>
     requires { HasFewCommits asks.now }
     ensures { IfOk result (λ text. Spells text (generated asks.now.seed asks.now.commits)) }
 {
-    let script = generate(alloc, asks.seed, asks.commits)?;
+    let script = asked_script(alloc, asks)?;
     print(alloc, &script)
 }
 
@@ -148,7 +158,7 @@ fn run_summary<R: Threads + Sync>(
     requires { HasFewCommits asks.now }
     ensures { IfOk result (said.IsSummaryOf (generated asks.now.seed asks.now.commits)) }
 {
-    let script = generate(alloc, asks.seed, asks.commits)?;
+    let script = asked_script(alloc, asks)?;
     let mut core = Core::new(alloc, script)?;
     run_with(rt, alloc, &mut core, asks)
 }

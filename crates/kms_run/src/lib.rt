@@ -16,8 +16,8 @@ mod words;
 
 pub use answers::{FullReport, NoAnswer, answer, answer_to};
 pub use auditing::{NoYes, answer_audit};
-pub use slept::{NoSleep, slept_answer, slept_answer_to};
+pub use slept::{NoSleep, answer_suspend, answer_suspend_to};
 pub use status::{Status, status_text};
 pub use top::{kms_main, kms_plain};
-pub use translated::{translate_text, translated_text};
+pub use translated::{answer_legacy, answer_legacy_to};
 pub use words::{Action, Execution, Generation, Task, is_run, legal_words, read_words};

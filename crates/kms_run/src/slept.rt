@@ -113,7 +113,11 @@ fn woken_report<M: MakesReports>(
 
 /// The report without options of a machine whose history is that of one thread: as it is where it is dead, and else of what
 /// it is once its device was turned off and brought back.
-fn told<M: MakesReports>(maker: &M, alloc: Global, core: Core) -> Result<FullReport, NoSleep>
+fn sleep_and_report<M: MakesReports>(
+    maker: &M,
+    alloc: Global,
+    core: Core,
+) -> Result<FullReport, NoSleep>
     requires maker { M.can_make maker.now }
     requires one { IsOne core.script core.steps }
     requires over { IsOver core.script core.steps }
@@ -128,7 +132,7 @@ fn told<M: MakesReports>(maker: &M, alloc: Global, core: Core) -> Result<FullRep
 }
 
 /// The report without options of what `suspend` makes of a script that was read.
-fn script_slept<M: MakesReports>(
+fn suspend_script<M: MakesReports>(
     maker: &M,
     alloc: Global,
     script: Script,
@@ -140,13 +144,13 @@ fn script_slept<M: MakesReports>(
 {
     let mut core = Core::new(alloc, script)?;
     finish(alloc, &mut core)?;
-    told(maker, alloc, core)
+    sleep_and_report(maker, alloc, core)
 }
 
 /// The report without options of what `suspend` makes of the script that an input spells, with clients of at most 4094
 /// commands; or the input's first fault, or the first object that cannot be brought back. The input's bytes are given up
 /// before anything is executed.
-pub fn slept_answer<M: MakesReports>(
+pub fn answer_suspend<M: MakesReports>(
     maker: &M,
     alloc: Global,
     input: Vec<u8>,
@@ -156,11 +160,11 @@ pub fn slept_answer<M: MakesReports>(
 {
     let parsed = parse_within(alloc, &input, Part::Script, MOST_BEFORE_TWO)?;
     drop(input);
-    script_slept(maker, alloc, parsed.script)
+    suspend_script(maker, alloc, parsed.script)
 }
 
 /// The same of an input that its owner keeps.
-pub fn slept_answer_to<M: MakesReports>(
+pub fn answer_suspend_to<M: MakesReports>(
     maker: &M,
     alloc: Global,
     input: &[u8],
@@ -169,5 +173,5 @@ pub fn slept_answer_to<M: MakesReports>(
     ensures { SleepAnswers input.now result }
 {
     let parsed = parse_within(alloc, input, Part::Script, MOST_BEFORE_TWO)?;
-    script_slept(maker, alloc, parsed.script)
+    suspend_script(maker, alloc, parsed.script)
 }

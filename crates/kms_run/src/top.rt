@@ -15,10 +15,10 @@ use crate::answers::{FullReport, NoAnswer, answer};
 use crate::auditing::{NoYes, answer_audit};
 use crate::generated::generate_text;
 use crate::running::run_answer;
-use crate::slept::{NoSleep, slept_answer};
+use crate::slept::{NoSleep, answer_suspend};
 use crate::status::Status;
 use crate::stream::{ReadError, read_all, write_all};
-use crate::translated::translated_text;
+use crate::translated::answer_legacy;
 use crate::words::{Action, Execution, Generation, Task, ThreadedRun, read_words};
 use kms_io::{Gate, Sink, Source};
 use kms_model::Seq;
@@ -141,7 +141,7 @@ fn write_slept<K: Sink>(sink: &mut K, answer: Result<FullReport, NoSleep>) -> St
 }
 
 /// What `suspend` does, with all that is promised of the bytes in one clause by the status.
-fn slept<R: Threads + Sync, S: Source, K: Sink>(
+fn suspend_input<R: Threads + Sync, S: Source, K: Sink>(
     rt: &R,
     alloc: Global,
     source: &mut S,
@@ -154,7 +154,7 @@ fn slept<R: Threads + Sync, S: Source, K: Sink>(
         (K.faults sink.old) (K.faults sink.new) }
 {
     match read_input(alloc, source) {
-        Ok(input) => write_slept(sink, slept_answer(&SeveralThreads { rt }, alloc, input)),
+        Ok(input) => write_slept(sink, answer_suspend(&SeveralThreads { rt }, alloc, input)),
         Err(status) => status,
     }
 }
@@ -205,7 +205,7 @@ fn write_translation<K: Sink>(sink: &mut K, answer: Result<Seq<u8>, ParseError>)
 }
 
 /// What `legacy` does, which executes nothing.
-fn translated<S: Source, K: Sink>(alloc: Global, source: &mut S, sink: &mut K) -> Status
+fn translate_input<S: Source, K: Sink>(alloc: Global, source: &mut S, sink: &mut K) -> Status
     ensures moved { Moved
         (S.left source.old) (S.left source.new) (K.written sink.old) (K.written sink.new)
         (MeetsTranslation result (S.left source.new)) }
@@ -213,7 +213,7 @@ fn translated<S: Source, K: Sink>(alloc: Global, source: &mut S, sink: &mut K) -
         (K.faults sink.old) (K.faults sink.new) }
 {
     match read_input(alloc, source) {
-        Ok(input) => write_translation(sink, translated_text(alloc, input)),
+        Ok(input) => write_translation(sink, answer_legacy(alloc, input)),
         Err(status) => status,
     }
 }
@@ -242,7 +242,7 @@ fn write_yes<K: Sink>(sink: &mut K, answer: Result<(), NoYes>) -> Status
 }
 
 /// What `audit` does, which executes nothing.
-fn audited<S: Source, K: Sink>(alloc: Global, source: &mut S, sink: &mut K) -> Status
+fn audit_input<S: Source, K: Sink>(alloc: Global, source: &mut S, sink: &mut K) -> Status
     ensures moved { Moved
         (S.left source.old) (S.left source.new) (K.written sink.old) (K.written sink.new)
         (MeetsAudit result (S.left source.new)) }
@@ -279,9 +279,9 @@ pub fn kms_plain<R: Threads + Sync, S: Source, K: Sink>(
         None => Status::Usage,
         Some(Task::Execute(asks)) => execute_input(rt, alloc, &asks, source, sink),
         Some(Task::Generate(asks)) => write_generation(rt, alloc, &asks, sink),
-        Some(Task::Translate) => translated(alloc, source, sink),
-        Some(Task::Suspend) => slept(rt, alloc, source, sink),
-        Some(Task::Audit) => audited(alloc, source, sink),
+        Some(Task::Translate) => translate_input(alloc, source, sink),
+        Some(Task::Suspend) => suspend_input(rt, alloc, source, sink),
+        Some(Task::Audit) => audit_input(alloc, source, sink),
     }
 }
 

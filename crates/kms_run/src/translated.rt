@@ -8,7 +8,7 @@ use std::alloc::Global;
 
 /// The text of the script that says by atomic requests what an input says with older calls, or the input's first fault. The
 /// input's bytes are given up before anything is translated.
-pub fn translated_text(alloc: Global, input: Vec<u8>) -> Result<Seq<u8>, ParseError>
+pub fn answer_legacy(alloc: Global, input: Vec<u8>) -> Result<Seq<u8>, ParseError>
     ensures { TellsTranslation input.items result }
 {
     let script = parse_legacy(alloc, &input)?;
@@ -18,7 +18,7 @@ pub fn translated_text(alloc: Global, input: Vec<u8>) -> Result<Seq<u8>, ParseEr
 }
 
 /// The same of an input that its owner keeps.
-pub fn translate_text(alloc: Global, input: &[u8]) -> Result<Seq<u8>, ParseError>
+pub fn answer_legacy_to(alloc: Global, input: &[u8]) -> Result<Seq<u8>, ParseError>
     ensures { TellsTranslation input.now result }
 {
     let script = parse_legacy(alloc, input)?;

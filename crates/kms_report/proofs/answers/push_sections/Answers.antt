@@ -19,4 +19,5 @@ returns c =
     let bound = c.loop-client.auto in
     let end = c.loop-client-test.false in
     let same : n - 1 ≡ c.args.clients = omega arith in
-    c.loop-client.invariant ∙ ap (λ (k : ℕ). c.args.text.now.items ++ flat_map (section_text c.args.section c.args.answers.now) (range_with_len 1 k)) same
+    c.loop-client.invariant
+    ∙ ap (λ (k : ℕ). c.args.text.now.items ++ flat_map (section_text c.args.section c.args.answers.now) (range_with_len 1 k)) same

@@ -7,4 +7,5 @@ use Rattle.kms_report.proofs.histories.push_trace.Goals as goal
 
 pub push_steps-requires : goal.push_steps-requires
 push_steps-requires c =
-    subst (λ (steps : List Step). All HasSmallIndex steps) (sym c.history.ensures) (history-small c.args.core.now.script c.args.core.now.steps c.is_a_history.ensures.formed.device c.is_a_history.ensures.history)
+    subst (λ (steps : List Step). All HasSmallIndex steps) (sym c.history.ensures)
+    (history-small c.args.core.now.script c.args.core.now.steps c.is_a_history.ensures.formed.device c.is_a_history.ensures.history)

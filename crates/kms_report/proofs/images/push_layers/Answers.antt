@@ -13,10 +13,15 @@ loop-layer-preserved c =
     let pushed = c.in_ok-push_image.ensures in
     record {
       images = pushed-images things _ c.loop-layer.images c.push_image.new.images pushed before.images;
-      seen = pushed-more things c.args.layers.now c.loop-layer.layer-index _ c.loop-layer.images c.push_image.new.images c.loop-layer-test.true pushed before.images before.seen;
-      kept = keeps-then c.args.images.now c.loop-layer.images c.push_image.new.images before.kept (pushed-keeps things _ c.loop-layer.images c.push_image.new.images pushed);
+      seen =
+          pushed-more things c.args.layers.now c.loop-layer.layer-index _ c.loop-layer.images c.push_image.new.images c.loop-layer-test.true
+          pushed before.images before.seen;
+      kept =
+          keeps-then c.args.images.now c.loop-layer.images c.push_image.new.images before.kept
+          (pushed-keeps things _ c.loop-layer.images c.push_image.new.images pushed);
     }
 
 pub returns-clause-seen : goal.returns-clause-seen
 returns-clause-seen c =
-    subst (λ (layers : List Layer). AreSeen (things_of c.args.core.now) c.loop-layer.images layers) (take_all c.loop-layer.layer-index c.args.layers.now c.loop-layer-test.false) c.loop-layer.invariant.seen
+    subst (λ (layers : List Layer). AreSeen (things_of c.args.core.now) c.loop-layer.images layers)
+    (take_all c.loop-layer.layer-index c.args.layers.now c.loop-layer-test.false) c.loop-layer.invariant.seen

@@ -9,10 +9,16 @@ returns-in_ok-extend_from_slice c =
 
 pub returns-in_ok-extend_from_slice-2 : goal.returns-in_ok-extend_from_slice-2
 returns-in_ok-extend_from_slice-2 c =
-    let now : c.extend_from_slice-then-number-lt100.new.self.items ≡ c.args.text.now.items ++ ((48 + c.args.number / 10 % 10) ∷ (48 + c.args.number % 10) ∷ c.args.mark ∷ []) = search rules in
+    let now : c.extend_from_slice-then-number-lt100.new.self.items
+    ≡ c.args.text.now.items
+    ++ ((48 + c.args.number / 10 % 10) ∷ (48 + c.args.number % 10) ∷ c.args.mark ∷ []) =
+    search rules in
     now ∙ two_digits c.args.text.now.items c.args.number c.args.mark (omega arith) (omega arith)
 
 pub returns-in_ok-extend_from_slice-3 : goal.returns-in_ok-extend_from_slice-3
 returns-in_ok-extend_from_slice-3 c =
-    let now : c.extend_from_slice-else-number-lt100.new.self.items ≡ c.args.text.now.items ++ ((48 + c.args.number / 100) ∷ (48 + c.args.number / 10 % 10) ∷ (48 + c.args.number % 10) ∷ c.args.mark ∷ []) = search rules in
+    let now : c.extend_from_slice-else-number-lt100.new.self.items
+    ≡ c.args.text.now.items
+    ++ ((48 + c.args.number / 100) ∷ (48 + c.args.number / 10 % 10) ∷ (48 + c.args.number % 10) ∷ c.args.mark ∷ []) =
+    search rules in
     now ∙ three_digits c.args.text.now.items c.args.number c.args.mark (omega arith) (omega arith)

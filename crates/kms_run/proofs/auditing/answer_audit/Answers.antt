@@ -16,8 +16,9 @@ parse_report-requires c =
     let short = short-behind c.args.input.now (parts_in c.in_ok-parsed.parsed) spelled in
     subst (λ bytes. length bytes < 4294967295) (sym told) (omega (arith, short))
 
-pub compared-requires-clause-spelt : goal.compared-requires-clause-spelt
-compared-requires-clause-spelt c = spelt-behind c.args.input.now (parts_in c.in_ok-parsed.parsed) c.in_ok-report.report (search rules) (search rules)
+pub compare-requires-clause-spelt : goal.compare-requires-clause-spelt
+compare-requires-clause-spelt c =
+    spelt-behind c.args.input.now (parts_in c.in_ok-parsed.parsed) c.in_ok-report.report (search rules) (search rules)
 
 pub returns-in_err-report : goal.returns-in_err-report
 returns-in_err-report c =
@@ -29,5 +30,5 @@ returns-in_err-report c =
 
 pub returns : goal.returns
 returns c =
-    says-compared c.args.input.now (parts_in c.in_ok-parsed.parsed) c.in_ok-report.report c.compared.result (search rules) (search rules)
-    c.compared.ensures
+    says-compared c.args.input.now (parts_in c.in_ok-parsed.parsed) c.in_ok-report.report c.compare.result (search rules) (search rules)
+    c.compare.ensures

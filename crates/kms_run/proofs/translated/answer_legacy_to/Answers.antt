@@ -1,5 +1,5 @@
 use Rattle.kms_legacy.proofs.OneTranslated.{one_translation}
-use Rattle.kms_run.proofs.translated.translate_text.Goals as goal
+use Rattle.kms_run.proofs.translated.answer_legacy_to.Goals as goal
 
 pub returns : goal.returns
 returns c = record {

@@ -1,7 +1,7 @@
 use Rattle.std.proofs.Common.{◌≡◌, ℕ, List, Ok, subst}
 use Rattle.kms_model.specs.Legacy.LegacyLines.{legacy_input}
 use Rattle.kms_legacy.proofs.OneTranslated.{one_translation}
-use Rattle.kms_run.proofs.translated.translated_text.Goals as goal
+use Rattle.kms_run.proofs.translated.answer_legacy.Goals as goal
 
 pub returns : goal.returns
 returns c = record {

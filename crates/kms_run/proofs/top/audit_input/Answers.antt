@@ -1,7 +1,7 @@
 use Rattle.std.proofs.Common.{subst}
 use Rattle.kms_run.specs.Auditing.{SaysOf}
 use Rattle.kms_run.proofs.Outcomes.{moved_on}
-use Rattle.kms_run.proofs.top.audited.Goals as goal
+use Rattle.kms_run.proofs.top.audit_input.Goals as goal
 
 pub returns-in-Ok-clause-moved : goal.returns-in-Ok-clause-moved
 returns-in-Ok-clause-moved g c =
