@@ -5,8 +5,12 @@ ghost use Rattle.std.specs.Prelude.{◌≡◌, ◌≤◌, length};
 use kms_blend::{blend, blend_row};
 use std::process::Abort;
 
+/// The mode, the plane's alpha, the pixel's, the layer's channel, the lower one, what shows.
+type Case = (u32, u32, u32, u32, u32, u32);
+
 /// Asserts what shows where a layer's channel lies over a lower one.
-fn assert_shows(rt: &impl Abort, mode: u32, a: u32, q: u32, f: u32, b: u32, shown: u32) {
+fn assert_shows(rt: &impl Abort, case: Case) {
+    let (mode, a, q, f, b, shown) = case;
     assert!(rt; mode <= 2 && a <= 65535 && q <= 255 && f <= 255 && b <= 255);
     assert!(rt;
         blend(mode, a, q, f, b) == shown,
@@ -14,7 +18,6 @@ fn assert_shows(rt: &impl Abort, mode: u32, a: u32, q: u32, f: u32, b: u32, show
     );
 }
 
-// The mode, the plane's alpha, the pixel's, the layer's channel, the lower one, what shows.
 #[test]
 fn channels_blend_as_worked_by_hand(rt: HostRuntime) {
     let channels = [
@@ -26,8 +29,8 @@ fn channels_blend_as_worked_by_hand(rt: HostRuntime) {
         (0, 32768, 255, 0, 255, 127),
         (0, 32768, 255, 255, 0, 128),
     ];
-    for (mode, a, q, f, b, shown) in channels {
-        assert_shows(&rt, mode, a, q, f, b, shown);
+    for case in channels {
+        assert_shows(&rt, case);
     }
 }
 
@@ -46,8 +49,8 @@ fn a_plane_s_alpha_goes_from_0_to_65535(rt: HostRuntime) {
     ];
     for (a, over_black, over_white) in alphas {
         for mode in 0..3 {
-            assert_shows(&rt, mode, a, 255, 255, 0, over_black);
-            assert_shows(&rt, mode, a, 255, 0, 255, over_white);
+            assert_shows(&rt, (mode, a, 255, 255, 0, over_black));
+            assert_shows(&rt, (mode, a, 255, 0, 255, over_white));
         }
     }
 }

@@ -157,23 +157,19 @@ fn flags_are_those_of_the_header(rt: HostRuntime) {
     }
 }
 
-/// Asserts whether a device of these planes and connectors keeps the limits.
-fn assert_device(
-    rt: &impl Abort,
-    alloc: Global,
-    case: &str,
-    crtcs: u32,
-    planes: &[PlaneInfo],
-    conns: &[u32],
-    legal: bool,
-) -> Result<(), NoMemory> {
+/// What a device is, its number of CRTCs, its planes, its connectors, and whether it keeps the limits.
+type Case<'a> = (&'a str, u32, &'a [PlaneInfo], &'a [u32], bool);
+
+/// Asserts whether a device keeps the limits.
+fn assert_device(rt: &impl Abort, alloc: Global, case: Case) -> Result<(), NoMemory> {
+    let (name, crtcs, planes, conns, legal) = case;
     let device = Topology {
         profile: 1,
         crtcs,
         planes: Seq::from_vec(planes.to_vec(alloc)?),
         conns: Seq::from_vec(conns.to_vec(alloc)?),
     };
-    assert!(rt; check_topology(&device) == legal, "{case}");
+    assert!(rt; check_topology(&device) == legal, "{name}");
     Ok(())
 }
 
@@ -212,8 +208,8 @@ fn devices_keep_the_limits(rt: HostRuntime) -> Result<(), Fail> {
         ("a fourth format", 2, &[PRIMARY, STRANGE], &[1], false),
         ("a connector of a third CRTC", 2, &[PRIMARY], &[3, 4], false),
     ];
-    for (case, crtcs, planes, conns, legal) in devices {
-        assert_device(&rt, rt.alloc(), case, crtcs, planes, conns, legal)?;
+    for case in devices {
+        assert_device(&rt, rt.alloc(), case)?;
     }
     Ok(())
 }

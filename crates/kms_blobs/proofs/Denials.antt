@@ -23,14 +23,16 @@ refused_blob : (b : Bool) → denied_if NOT_OWNER (not b) ≡ (if b then None el
 refused_blob true = refl
 refused_blob false = refl
 
-answered_blob : (owner : ℕ) (b : Blob) (mine : Bool) → (b.owner == owner) ≡ mine → (if mine then None else Some NOT_OWNER.0) ≡ denial (destroy_answer owner (Some b))
+answered_blob : (owner : ℕ) (b : Blob) (mine : Bool) → (b.owner == owner) ≡ mine
+    → (if mine then None else Some NOT_OWNER.0) ≡ denial (destroy_answer owner (Some b))
 answered_blob owner b true is = rw is refl
 answered_blob owner b false is = rw is refl
 
 of_blob : (owner : ℕ) (b : Blob) → denied_if NOT_OWNER (not (b.owner == owner)) ≡ denial (destroy_answer owner (Some b))
 of_blob owner b = refused_blob (b.owner == owner) ∙ answered_blob owner b (b.owner == owner) refl
 
-refused_if_open : (owner : ℕ) (t : Thing) (b : Bool) (c : Content) → t.is_open ≡ b → t.content ≡ c → destroy_refusal owner (Some t) ≡ denial (destroy_answer owner (value_if_open blob_in t))
+refused_if_open : (owner : ℕ) (t : Thing) (b : Bool) (c : Content) → t.is_open ≡ b → t.content ≡ c
+    → destroy_refusal owner (Some t) ≡ denial (destroy_answer owner (value_if_open blob_in t))
 refused_if_open owner t true (content.Mode m) opened is = rw (opened, is) (of_blob owner (blob t.owner (mode_bytes m)))
 refused_if_open owner t false (content.Mode m) opened is = rw (opened, is) refl
 refused_if_open owner t true (content.Blob bytes) opened is = rw (opened, is) (of_blob owner (blob t.owner bytes))
@@ -44,7 +46,8 @@ refused_if_open owner t false content.Fence opened is = rw (opened, is) refl
 refused_if_open owner t true content.OutFence opened is = rw (opened, is) refl
 refused_if_open owner t false content.OutFence opened is = rw (opened, is) refl
 
-refusal_is : (owner : ℕ) (o : Option Thing) → destroy_refusal owner o ≡ denial (destroy_answer owner (option_and_then (value_if_open blob_in) o))
+refusal_is : (owner : ℕ) (o : Option Thing)
+    → destroy_refusal owner o ≡ denial (destroy_answer owner (option_and_then (value_if_open blob_in) o))
 refusal_is owner None = refl
 refusal_is owner (Some t) = refused_if_open owner t t.is_open t.content refl refl
 

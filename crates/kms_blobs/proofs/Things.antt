@@ -11,8 +11,10 @@ use Rattle.kms_model.specs.Things.Kept.{blob}
 use Rattle.kms_model.specs.Things.Tables.{slot}
 use Rattle.kms_blobs.specs.Things.{blob_in, blobs_of}
 
-pub made_blob : (w : World) (owner label : ℕ) (bytes : List ℕ) → blobs_of (make w owner label (content.Blob bytes)).world.things ≡ blobs_of w.things ++ slot w.next_id (blob owner bytes) ∷ []
+pub made_blob : (w : World) (owner label : ℕ) (bytes : List ℕ)
+    → blobs_of (make w owner label (content.Blob bytes)).world.things ≡ blobs_of w.things ++ slot w.next_id (blob owner bytes) ∷ []
 made_blob w owner label bytes = filter_map-append (open_value blob_in) w.things _
 
-pub made_mode : (w : World) (owner label : ℕ) (m : Mode) → blobs_of (make w owner label (content.Mode m)).world.things ≡ blobs_of w.things ++ slot w.next_id (blob owner (mode_bytes m)) ∷ []
+pub made_mode : (w : World) (owner label : ℕ) (m : Mode)
+    → blobs_of (make w owner label (content.Mode m)).world.things ≡ blobs_of w.things ++ slot w.next_id (blob owner (mode_bytes m)) ∷ []
 made_mode w owner label m = filter_map-append (open_value blob_in) w.things _

@@ -63,7 +63,7 @@ impl BlobStore {
             → blobs_of w.things ≡ self.old → w.next_id ≡ id → bytes.now ≡ mode_bytes m
             → blobs_of (make w owner label (content.Mode m)).world.things ≡ self.new) }
     {
-        let bytes = copied(alloc, bytes)?;
+        let bytes = copy(alloc, bytes)?;
         self.blobs.push(id, Blob { owner, bytes })
     }
 
@@ -101,7 +101,7 @@ impl BlobStore {
 }
 
 // A list of these bytes.
-fn copied(alloc: Global, bytes: &[u8]) -> Result<Seq<u8>, NoMemory>
+fn copy(alloc: Global, bytes: &[u8]) -> Result<Seq<u8>, NoMemory>
     ensures { IfOk result (λ list. list ≡ bytes.now) }
 {
     let mut list = Vec::with_capacity(alloc, bytes.len())?;

@@ -14,26 +14,30 @@ use Rattle.kms_regs.specs.Words.{ReadSame, bank_of, latched_plane}
 use Rattle.kms_regs.proofs.Rows.{four_alike, read-set, read-with_ids, read_here, read_past}
 
 -- what stands at an index is what is read
-pub plane_of_bank : (planes : List PlaneWords) (crtcs : List CrtcWords) (r : Registers) (index : ℕ) (d : PlaneWords) → bank_of planes crtcs ≡ r → index < length planes
+pub plane_of_bank : (planes : List PlaneWords) (crtcs : List CrtcWords) (r : Registers) (index : ℕ) (d : PlaneWords)
+    → bank_of planes crtcs ≡ r → index < length planes
     → get_or planes index d ≡ plane_register r (object_id Plane index)
 plane_of_bank planes crtcs r index d is low =
     let first : PlaneWords = first_plane_words (object_id Plane index) in
     get_or_default planes index d first low ∙ sym (read-with_ids first planes (object_id Plane 0) index (object_id Plane index) refl) ∙ ap (λ (x : Registers). plane_register x (object_id Plane index)) is
 
-pub crtc_of_bank : (planes : List PlaneWords) (crtcs : List CrtcWords) (r : Registers) (index : ℕ) (d : CrtcWords) → bank_of planes crtcs ≡ r → index < length crtcs
+pub crtc_of_bank : (planes : List PlaneWords) (crtcs : List CrtcWords) (r : Registers) (index : ℕ) (d : CrtcWords)
+    → bank_of planes crtcs ≡ r → index < length crtcs
     → get_or crtcs index d ≡ crtc_register r (object_id Crtc index)
 crtc_of_bank planes crtcs r index d is low =
     get_or_default crtcs index d first_crtc_words low ∙ sym (read-with_ids first_crtc_words crtcs (object_id Crtc 0) index (object_id Crtc index) refl) ∙ ap (λ (x : Registers). crtc_register x (object_id Crtc index)) is
 
 -- a write at an index
-pub plane_set : (planes : List PlaneWords) (crtcs : List CrtcWords) (r : Registers) (index : ℕ) (x words : PlaneWords) → bank_of planes crtcs ≡ r → index < length planes → x ≡ words
+pub plane_set : (planes : List PlaneWords) (crtcs : List CrtcWords) (r : Registers) (index : ℕ) (x words : PlaneWords)
+    → bank_of planes crtcs ≡ r → index < length planes → x ≡ words
     → ReadSame (write_plane r (object_id Plane index) words) (bank_of (slice_set planes index x) crtcs)
 plane_set planes crtcs r index x words is low same =
     subst (λ (w : PlaneWords). ReadSame (write_plane r (object_id Plane index) w) (bank_of (slice_set planes index x) crtcs)) same
     (subst (λ (from : Registers). ReadSame (write_plane from (object_id Plane index) x) (bank_of (slice_set planes index x) crtcs)) is
     (record { planes = λ i. read-set (first_plane_words (object_id Plane i)) x planes (object_id Plane 0) index i low; crtcs = λ i. refl }))
 
-pub crtc_set : (planes : List PlaneWords) (crtcs : List CrtcWords) (r : Registers) (index : ℕ) (x words : CrtcWords) → bank_of planes crtcs ≡ r → index < length crtcs → x ≡ words
+pub crtc_set : (planes : List PlaneWords) (crtcs : List CrtcWords) (r : Registers) (index : ℕ) (x words : CrtcWords)
+    → bank_of planes crtcs ≡ r → index < length crtcs → x ≡ words
     → ReadSame (write_crtc r (object_id Crtc index) words) (bank_of planes (slice_set crtcs index x))
 crtc_set planes crtcs r index x words is low same =
     subst (λ (w : CrtcWords). ReadSame (write_crtc r (object_id Crtc index) w) (bank_of planes (slice_set crtcs index x))) same
@@ -50,11 +54,14 @@ pub record IsLatched (shadow live now : Registers) (crtc n : ℕ) : Type 0 where
   pub crtcs : (i : ℕ) → crtc_register now (object_id Crtc i) ≡ crtc_register live (object_id Crtc i)
 
 pub none_latched : (shadow live : Registers) (crtc : ℕ) → IsLatched shadow live live crtc 0
-none_latched shadow live crtc = record { copied = λ i low is. absurd (omega (arith, low)); kept = λ i not. refl; later = λ i past. refl; crtcs = λ i. refl }
+none_latched shadow live crtc =
+    record { copied = λ i low is. absurd (omega (arith, low)); kept = λ i not. refl; later = λ i past. refl; crtcs = λ i. refl }
 
 -- a plane that is copied
-latched_here : (shadow live now new : Registers) (crtc n : ℕ) → IsLatched shadow live now crtc n → is_copied shadow live crtc (object_id Plane n) ≡ true
-    → ReadSame (write_plane now (object_id Plane n) (plane_register shadow (object_id Plane n))) new → IsLatched shadow live new crtc (n + 1)
+latched_here : (shadow live now new : Registers) (crtc n : ℕ) → IsLatched shadow live now crtc n
+    → is_copied shadow live crtc (object_id Plane n) ≡ true
+    → ReadSame (write_plane now (object_id Plane n) (plane_register shadow (object_id Plane n))) new
+    → IsLatched shadow live new crtc (n + 1)
 latched_here shadow live now new crtc n h here same =
     let words : PlaneWords = plane_register shadow (object_id Plane n) in
     let past : (i : ℕ) → n ≢ i → plane_register new (object_id Plane i) ≡ plane_register now (object_id Plane i) = λ i other.
@@ -73,7 +80,8 @@ latched_here shadow live now new crtc n h here same =
     }
 
 -- a plane that is not
-latched_past : (shadow live now new : Registers) (crtc n : ℕ) → IsLatched shadow live now crtc n → is_copied shadow live crtc (object_id Plane n) ≡ false
+latched_past : (shadow live now new : Registers) (crtc n : ℕ) → IsLatched shadow live now crtc n
+    → is_copied shadow live crtc (object_id Plane n) ≡ false
     → ReadSame now new → IsLatched shadow live new crtc (n + 1)
 latched_past shadow live now new crtc n h here same = record {
   copied = λ i low is. elim (cases_eq n i) [
@@ -86,11 +94,14 @@ latched_past shadow live now new crtc n h here same = record {
 }
 
 -- a plane that a latch copies
-pub copied_set : (shadow live b : Registers) (crtc plane : ℕ) → is_copied shadow live crtc plane ≡ true → ReadSame (write_plane live plane (plane_register shadow plane)) b → ReadSame (latched_plane shadow live crtc plane) b
-copied_set shadow live b crtc plane is same = subst (λ (test : Bool). ReadSame (if test then write_plane live plane (plane_register shadow plane) else live) b) (sym is) same
+pub copied_set : (shadow live b : Registers) (crtc plane : ℕ) → is_copied shadow live crtc plane ≡ true
+    → ReadSame (write_plane live plane (plane_register shadow plane)) b → ReadSame (latched_plane shadow live crtc plane) b
+copied_set shadow live b crtc plane is same =
+    subst (λ (test : Bool). ReadSame (if test then write_plane live plane (plane_register shadow plane) else live) b) (sym is) same
 
 -- the next plane
-pub latched_next : (shadow live now new : Registers) (crtc n : ℕ) → IsLatched shadow live now crtc n → ReadSame (latched_plane shadow now crtc (object_id Plane n)) new → IsLatched shadow live new crtc (n + 1)
+pub latched_next : (shadow live now new : Registers) (crtc n : ℕ) → IsLatched shadow live now crtc n
+    → ReadSame (latched_plane shadow now crtc (object_id Plane n)) new → IsLatched shadow live new crtc (n + 1)
 latched_next shadow live now new crtc n h same =
     let there : PlaneWords = plane_register shadow (object_id Plane n) in
     let test : is_copied shadow now crtc (object_id Plane n) ≡ is_copied shadow live crtc (object_id Plane n) = ap (λ (w : PlaneWords). (w.crtc == crtc) || (there.crtc == crtc)) (h.later n (omega arith)) in
@@ -103,7 +114,8 @@ abbrev planes_from : ℕ → ℕ → List ℕ
 planes_from from n = map (object_id Plane) (range_with_len from n)
 
 -- what the definition's latch copies: it leaves alone a plane that is none of those which it copies
-copied_apart : (shadow live : Registers) (crtc from n i : ℕ) (d : PlaneWords) → ((j : ℕ) → from ≤ j → j < from + n → is_copied shadow live crtc (object_id Plane j) ≡ true → j ≡ i → ⊥)
+copied_apart : (shadow live : Registers) (crtc from n i : ℕ) (d : PlaneWords)
+    → ((j : ℕ) → from ≤ j → j < from + n → is_copied shadow live crtc (object_id Plane j) ≡ true → j ≡ i → ⊥)
     → read d (copied_planes shadow live crtc (planes_from from n)) (object_id Plane i) ≡ read d live.planes (object_id Plane i)
 unfolding copied_planes
 copied_apart shadow live crtc from zero i d apart = refl
@@ -124,9 +136,11 @@ kept-copied shadow live crtc from n i d not =
 
 pub later-copied : (shadow live : Registers) (crtc from n i : ℕ) (d : PlaneWords) → from + n ≤ i
     → read d (copied_planes shadow live crtc (planes_from from n)) (object_id Plane i) ≡ read d live.planes (object_id Plane i)
-later-copied shadow live crtc from n i d past = copied_apart shadow live crtc from n i d (λ j low high on same. absurd (omega (arith, high, same, past)))
+later-copied shadow live crtc from n i d past =
+    copied_apart shadow live crtc from n i d (λ j low high on same. absurd (omega (arith, high, same, past)))
 
-pub copied-copied : (shadow live : Registers) (crtc from n i : ℕ) (d : PlaneWords) → from ≤ i → i < from + n → is_copied shadow live crtc (object_id Plane i) ≡ true
+pub copied-copied : (shadow live : Registers) (crtc from n i : ℕ) (d : PlaneWords) → from ≤ i → i < from + n
+    → is_copied shadow live crtc (object_id Plane i) ≡ true
     → read d (copied_planes shadow live crtc (planes_from from n)) (object_id Plane i) ≡ plane_register shadow (object_id Plane i)
 unfolding copied_planes
 copied-copied shadow live crtc from zero i d low high is = absurd (omega (arith, low, high))
@@ -157,7 +171,8 @@ planes_latched t shadow live now crtc h i =
     ]
 
 -- the CRTC's words are copied last
-crtcs_latched : (shadow live : Registers) (crtcs : List CrtcWords) (planes : List PlaneWords) (index : ℕ) (x : CrtcWords) → index < length crtcs → x ≡ crtc_register shadow (object_id Crtc index)
+crtcs_latched : (shadow live : Registers) (crtcs : List CrtcWords) (planes : List PlaneWords) (index : ℕ) (x : CrtcWords)
+    → index < length crtcs → x ≡ crtc_register shadow (object_id Crtc index)
     → ((i : ℕ) → crtc_register (bank_of planes crtcs) (object_id Crtc i) ≡ crtc_register live (object_id Crtc i)) → (i : ℕ)
     → read first_crtc_words ((object_id Crtc index, crtc_register shadow (object_id Crtc index)) ∷ live.crtcs) (object_id Crtc i) ≡ crtc_register (bank_of planes (slice_set crtcs index x)) (object_id Crtc i)
 crtcs_latched shadow live crtcs planes index x low is same i =
@@ -174,7 +189,8 @@ crtcs_latched shadow live crtcs planes index x low is same i =
 
 -- a whole latch
 pub latched_all : (t : Topology) (shadow live now : Registers) (planes : List PlaneWords) (crtcs : List CrtcWords) (n index : ℕ) (x : CrtcWords) → IsLatched shadow live now (object_id Crtc index) n → n ≡ length t.planes
-    → bank_of planes crtcs ≡ now → index < length crtcs → x ≡ crtc_register shadow (object_id Crtc index) → ReadSame (latched_registers t shadow live (object_id Crtc index)) (bank_of planes (slice_set crtcs index x))
+    → bank_of planes crtcs ≡ now → index < length crtcs → x ≡ crtc_register shadow (object_id Crtc index)
+    → ReadSame (latched_registers t shadow live (object_id Crtc index)) (bank_of planes (slice_set crtcs index x))
 latched_all t shadow live now planes crtcs n index x h all is low same =
     let whole : IsLatched shadow live (bank_of planes crtcs) (object_id Crtc index) (length t.planes) =
     subst (λ (k : ℕ). IsLatched shadow live (bank_of planes crtcs) (object_id Crtc index) k) all (subst (λ (r : Registers). IsLatched shadow live r (object_id Crtc index) n) (sym is) h) in
@@ -188,7 +204,8 @@ pub record AreFirst (planes : List PlaneWords) (n : ℕ) : Type 0 where
   pub first : (i : ℕ) → i < n → get_or planes i (first_plane_words (object_id Plane i)) ≡ first_plane_words (object_id Plane i)
 
 -- one plane more
-pub first_next : (planes : List PlaneWords) (n : ℕ) (x : PlaneWords) → AreFirst planes n → n < 16 → x ≡ first_plane_words (object_id Plane n) → AreFirst (slice_set planes n x) (n + 1)
+pub first_next : (planes : List PlaneWords) (n : ℕ) (x : PlaneWords) → AreFirst planes n → n < 16
+    → x ≡ first_plane_words (object_id Plane n) → AreFirst (slice_set planes n x) (n + 1)
 first_next planes n x h low is = record {
   long = length-set planes n x ∙ h.long;
   first = λ i below. elim (cases_eq i n) [
@@ -198,7 +215,8 @@ first_next planes n x h low is = record {
 }
 
 -- all words are those at the start
-pub first_all : (planes : List PlaneWords) (n : ℕ) (x : CrtcWords) → AreFirst planes n → 16 ≤ n → x ≡ first_crtc_words → ReadSame first_registers (bank_of planes (x ∷ x ∷ x ∷ x ∷ []))
+pub first_all : (planes : List PlaneWords) (n : ℕ) (x : CrtcWords) → AreFirst planes n → 16 ≤ n → x ≡ first_crtc_words
+    → ReadSame first_registers (bank_of planes (x ∷ x ∷ x ∷ x ∷ []))
 unfolding read
 first_all planes n x h all is = record {
   planes = λ i. sym (read-with_ids (first_plane_words (object_id Plane i)) planes (object_id Plane 0) i (object_id Plane i) refl ∙ elim (cases_lt i 16) [

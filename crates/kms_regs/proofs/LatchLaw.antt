@@ -25,9 +25,11 @@ unfolding plane_in
 unseen m crtc plane w ls off = ap (λ (b : Bool). put_plane m plane (plane_in w) (if b then (plane_in w).fb else None) ls) off
 
 -- the words of a plane after a latch
-copied_words : (t : Topology) (shadow live : Registers) (crtc i : ℕ) → i < length t.planes → is_copied shadow live crtc (object_id Plane i) ≡ true
+copied_words : (t : Topology) (shadow live : Registers) (crtc i : ℕ) → i < length t.planes
+    → is_copied shadow live crtc (object_id Plane i) ≡ true
     → plane_register (latched_registers t shadow live crtc) (object_id Plane i) ≡ plane_register shadow (object_id Plane i)
-copied_words t shadow live crtc i low is = copied-copied shadow live crtc 0 (length t.planes) i (first_plane_words (object_id Plane i)) (omega arith) (omega (arith, low)) is
+copied_words t shadow live crtc i low is =
+    copied-copied shadow live crtc 0 (length t.planes) i (first_plane_words (object_id Plane i)) (omega arith) (omega (arith, low)) is
 
 kept_words : (t : Topology) (shadow live : Registers) (crtc i : ℕ) → is_copied shadow live crtc (object_id Plane i) ≡ false
     → plane_register (latched_registers t shadow live crtc) (object_id Plane i) ≡ plane_register live (object_id Plane i)
@@ -55,7 +57,8 @@ equal_of : (a b : ℕ) → (a == b) ≡ true → a ≡ b
 equal_of a b is = elim (eqb_tells a b) [ inl same ↦ same.1 | inr other ↦ cc ]
 
 -- a plane that a latch copies is on no other CRTC
-on_none : (shadow live : Registers) (plane crtc other : ℕ) → crtc ≢ 0 → other ≢ 0 → other ≢ crtc → ¬ MovesCrtc shadow live plane → is_copied shadow live crtc plane ≡ true
+on_none : (shadow live : Registers) (plane crtc other : ℕ) → crtc ≢ 0 → other ≢ 0 → other ≢ crtc → ¬ MovesCrtc shadow live plane
+    → is_copied shadow live crtc plane ≡ true
     → ((plane_register live plane).crtc ≢ other) × ((plane_register shadow plane).crtc ≢ other)
 on_none shadow live plane crtc other some some_other differ still is =
     elim (or_cases ((plane_register live plane).crtc == crtc) ((plane_register shadow plane).crtc == crtc) is) [
@@ -65,7 +68,8 @@ on_none shadow live plane crtc other some some_other differ still is =
           ((λ e. still (record { live_on_one = λ z. some_other (sym e ∙ z); shadow_on_one = λ z. some (sym here ∙ z); on_another = λ same. differ (sym e ∙ same ∙ here) })), (λ e. differ (sym e ∙ here))))
     ]
 
-leaves_plane : (t : Topology) (shadow live : Registers) (crtc other i : ℕ) (m : Mode) (ls : List (ℕ × Layer)) → crtc ≢ 0 → other ≢ 0 → other ≢ crtc → NoPlaneMoves t shadow live → i < length t.planes
+leaves_plane : (t : Topology) (shadow live : Registers) (crtc other i : ℕ) (m : Mode) (ls : List (ℕ × Layer)) → crtc ≢ 0 → other ≢ 0
+    → other ≢ crtc → NoPlaneMoves t shadow live → i < length t.planes
     → put_at m other (object_id Plane i) (plane_register (latched_registers t shadow live crtc) (object_id Plane i)) ls ≡ put_at m other (object_id Plane i) (plane_register live (object_id Plane i)) ls
 leaves_plane t shadow live crtc other i m ls some some_other differ still low =
     let plane : ℕ = object_id Plane i in

@@ -29,22 +29,26 @@ use Rattle.kms_model.specs.Request.Flags.{is_nonblock, wants_event}
 use Rattle.kms_regs.specs.File.{RegisterFile, StandsForDevice, blanked, flushed, latched_device}
 use Rattle.kms_regs.specs.StepLaws.{Blanks, Flushes, WritesCrtc, WritesPlane, keeps_registers, latch_of}
 
-signalled : (t : Topology) (m : Machine) (fence : Option ℕ) (f : RegisterFile) → StandsForDevice t m.device f → StandsForDevice t (signals m fence).device f
+signalled : (t : Topology) (m : Machine) (fence : Option ℕ) (f : RegisterFile) → StandsForDevice t m.device f
+    → StandsForDevice t (signals m fence).device f
 signalled t m None f stands = stands
 signalled t m (Some id) f stands = stands
 
-delivered : (t : Topology) (m : Machine) (k crtc count : ℕ) (asked : Bool) (f : RegisterFile) → StandsForDevice t m.device f → StandsForDevice t (if asked then delivers t m k crtc count else m).device f
+delivered : (t : Topology) (m : Machine) (k crtc count : ℕ) (asked : Bool) (f : RegisterFile) → StandsForDevice t m.device f
+    → StandsForDevice t (if asked then delivers t m k crtc count else m).device f
 delivered t m k crtc count true f stands = stands
 delivered t m k crtc count false f stands = stands
 
-pub latch_stands : (t : Topology) (m : Machine) (k crtc count : ℕ) (f : RegisterFile) → StandsForDevice t (latched_device t m.device crtc) f → StandsForDevice t (latches t m k crtc count).device f
+pub latch_stands : (t : Topology) (m : Machine) (k crtc count : ℕ) (f : RegisterFile) → StandsForDevice t (latched_device t m.device crtc) f
+    → StandsForDevice t (latches t m k crtc count).device f
 unfolding latches
 latch_stands t m k crtc count f stands =
     let shown : Machine = latches_picture t m k crtc count in
     signalled t (delivers_if t shown k crtc count) (out_fence_of t m.device.commits k crtc) f (delivered t shown k crtc count (asks_event t m.device.commits k) f stands)
 
 -- a flush: the CRTC is on in its shadow words exactly where it is in the commit's new state
-pub flush_stands : (t : Topology) (m : Machine) (k crtc : ℕ) (f : RegisterFile) → is_on_in m.device.shadow crtc ≡ (new_crtc t m.device.commits k crtc).active
+pub flush_stands : (t : Topology) (m : Machine) (k crtc : ℕ) (f : RegisterFile)
+    → is_on_in m.device.shadow crtc ≡ (new_crtc t m.device.commits k crtc).active
     → StandsForDevice t (flushed t m.device k crtc) f → StandsForDevice t (flushes t m k crtc).device f
 flush_stands t m k crtc f same stands =
     elim (cases_Bool (new_crtc t m.device.commits k crtc).active) [
@@ -53,30 +57,36 @@ flush_stands t m k crtc f same stands =
     ]
 
 -- a vblank
-pub blank_stands : (t : Topology) (m : Machine) (crtc : ℕ) (go : Option ℕ) (f : RegisterFile) → go_at m.device crtc ≡ go → StandsForDevice t (blanked t m.device crtc) f → StandsForDevice t (blanks t m crtc go).device f
+pub blank_stands : (t : Topology) (m : Machine) (crtc : ℕ) (go : Option ℕ) (f : RegisterFile) → go_at m.device crtc ≡ go
+    → StandsForDevice t (blanked t m.device crtc) f → StandsForDevice t (blanks t m crtc go).device f
 blank_stands t m crtc None f is stands = rw is at stands
 blank_stands t m crtc (Some k) f is stands = latch_stands t (counts_vblank m crtc) k crtc _ f (rw is at stands)
 
 -- Steps that leave the registers as they are
 
-on_either : (t : Topology) (b : Bool) (x y : Machine) (f : RegisterFile) → StandsForDevice t x.device f → StandsForDevice t y.device f → StandsForDevice t (if b then x else y).device f
+on_either : (t : Topology) (b : Bool) (x y : Machine) (f : RegisterFile) → StandsForDevice t x.device f → StandsForDevice t y.device f
+    → StandsForDevice t (if b then x else y).device f
 on_either t true x y f first second = first
 on_either t false x y f first second = second
 
-lock_stands : (t : Topology) (m : Machine) (client object : ℕ) (holder : Option ℕ) (f : RegisterFile) → StandsForDevice t m.device f → StandsForDevice t (locked m client object holder).device f
+lock_stands : (t : Topology) (m : Machine) (client object : ℕ) (holder : Option ℕ) (f : RegisterFile) → StandsForDevice t m.device f
+    → StandsForDevice t (locked m client object holder).device f
 lock_stands t m client object None f stands = stands
 lock_stands t m client object (Some other) f stands = stands
 
-relock_stands : (t : Topology) (m : Machine) (client : ℕ) (object : Option ℕ) (f : RegisterFile) → StandsForDevice t m.device f → StandsForDevice t (relocked m client object).device f
+relock_stands : (t : Topology) (m : Machine) (client : ℕ) (object : Option ℕ) (f : RegisterFile) → StandsForDevice t m.device f
+    → StandsForDevice t (relocked m client object).device f
 relock_stands t m client None f stands = stands
 relock_stands t m client (Some object) f stands = stands
 
-refuse_stands : (t : Topology) (m : Machine) (client : ℕ) (r : Option Request) (f : RegisterFile) → StandsForDevice t m.device f → StandsForDevice t (refused t m client r).device f
+refuse_stands : (t : Topology) (m : Machine) (client : ℕ) (r : Option Request) (f : RegisterFile) → StandsForDevice t m.device f
+    → StandsForDevice t (refused t m client r).device f
 unfolding refused
 refuse_stands t m client None f stands = stands
 refuse_stands t m client (Some r) f stands = stands
 
-swap_stands : (t : Topology) (m : Machine) (client : ℕ) (r : Option Request) (f : RegisterFile) → StandsForDevice t m.device f → StandsForDevice t (swapped_state t m client r).device f
+swap_stands : (t : Topology) (m : Machine) (client : ℕ) (r : Option Request) (f : RegisterFile) → StandsForDevice t m.device f
+    → StandsForDevice t (swapped_state t m client r).device f
 unfolding swapped_state
 swap_stands t m client None f stands = stands
 swap_stands t m client (Some r) f stands =
@@ -85,31 +95,40 @@ swap_stands t m client (Some r) f stands =
       | inr none ↦ rw none (on_either t (is_nonblock r.flags) _ _ f stands stands)
     ]
 
-joins_stands : (t : Topology) (m : Machine) (client : ℕ) (b : Bool) (f : RegisterFile) → StandsForDevice t m.device f → StandsForDevice t (joins_if b m client).device f
+joins_stands : (t : Topology) (m : Machine) (client : ℕ) (b : Bool) (f : RegisterFile) → StandsForDevice t m.device f
+    → StandsForDevice t (joins_if b m client).device f
 joins_stands t m client true f stands = stands
 joins_stands t m client false f stands = stands
 
-make_stands : (t : Topology) (m : Machine) (client : ℕ) (c : Option Command) (f : RegisterFile) → StandsForDevice t m.device f → StandsForDevice t (made_thing t m client c).device f
+make_stands : (t : Topology) (m : Machine) (client : ℕ) (c : Option Command) (f : RegisterFile) → StandsForDevice t m.device f
+    → StandsForDevice t (made_thing t m client c).device f
 unfolding made_thing
 make_stands t m client None f stands = stands
 make_stands t m client (Some c) f stands = joins_stands t _ client _ f stands
 
-fence_stands : (t : Topology) (m : Machine) (c : Command) (r : Reply) (f : RegisterFile) → StandsForDevice t m.device f → StandsForDevice t (fence_signalled m (Some c) r).device f
-fence_stands t m (command.Signal label) reply.Done f stands = signalled t m (id_of_thing (thing_labelled m.device.world.things label)) f stands
+fence_stands : (t : Topology) (m : Machine) (c : Command) (r : Reply) (f : RegisterFile) → StandsForDevice t m.device f
+    → StandsForDevice t (fence_signalled m (Some c) r).device f
+fence_stands t m (command.Signal label) reply.Done f stands =
+    signalled t m (id_of_thing (thing_labelled m.device.world.things label)) f stands
 fence_stands t m c r f stands = stands
 
-signal_stands : (t : Topology) (m : Machine) (client : ℕ) (c : Option Command) (f : RegisterFile) → StandsForDevice t m.device f → StandsForDevice t (signalled_by t m client c).device f
+signal_stands : (t : Topology) (m : Machine) (client : ℕ) (c : Option Command) (f : RegisterFile) → StandsForDevice t m.device f
+    → StandsForDevice t (signalled_by t m client c).device f
 signal_stands t m client None f stands = stands
-signal_stands t m client (Some c) f stands = fence_stands t (answers m client (execute t m.device.world client c).reply) c (execute t m.device.world client c).reply f stands
+signal_stands t m client (Some c) f stands =
+    fence_stands t (answers m client (execute t m.device.world client c).reply) c (execute t m.device.world client c).reply f stands
 
-read_stands : (t : Topology) (m : Machine) (client : ℕ) (events : List Event) (f : RegisterFile) → StandsForDevice t m.device f → StandsForDevice t (reads m client events).device f
+read_stands : (t : Topology) (m : Machine) (client : ℕ) (events : List Event) (f : RegisterFile) → StandsForDevice t m.device f
+    → StandsForDevice t (reads m client events).device f
 read_stands t m client [] f stands = stands
 read_stands t m client (event ∷ events) f stands = stands
 
-pub others_follow : (s : Script) (m : Machine) (step : Step) (f : RegisterFile) → keeps_registers step ≡ true → StandsForDevice s.topology m.device f → StandsForDevice s.topology (next s m step).device f
+pub others_follow : (s : Script) (m : Machine) (step : Step) (f : RegisterFile) → keeps_registers step ≡ true
+    → StandsForDevice s.topology m.device f → StandsForDevice s.topology (next s m step).device f
 unfolding next
 others_follow s m (Begin client) f kept stands = stands
-others_follow s m (Lock client kind index) f kept stands = lock_stands s.topology m client (object_id kind index) (holder_at m (object_id kind index)) f stands
+others_follow s m (Lock client kind index) f kept stands =
+    lock_stands s.topology m client (object_id kind index) (holder_at m (object_id kind index)) f stands
 others_follow s m (BackOff client) f kept stands = stands
 others_follow s m (Relock client) f kept stands = relock_stands s.topology m client (contended (doing_at m client)) f stands
 others_follow s m (Refuse client) f kept stands = refuse_stands s.topology m client (request_at s m client) f stands
@@ -138,24 +157,31 @@ no_crtc index = rw (le-ltb (object_id Plane index) 104 (omega arith)) and_false
 of_crtc : (index : ℕ) → index < 4 → is_id_of Crtc (object_id Crtc index) ≡ true
 of_crtc index low = rw (le-leb 100 (object_id Crtc index) (omega arith), lt-ltb (object_id Crtc index) 104 (omega (arith, low))) refl
 
-pub write_plane_follows : (s : Script) (m : Machine) (k index : ℕ) (old new : RegisterFile) → StandsForDevice s.topology m.device old → WritesPlane old new index (new_plane s.topology m.device.commits k (object_id Plane index))
+pub write_plane_follows : (s : Script) (m : Machine) (k index : ℕ) (old new : RegisterFile) → StandsForDevice s.topology m.device old
+    → WritesPlane old new index (new_plane s.topology m.device.commits k (object_id Plane index))
     → StandsForDevice s.topology (next s m (Write k Plane index)).device new
 unfolding next
 write_plane_follows s m k index old new stands writes = rw (no_crtc index) (writes s.topology m.device stands)
 
-pub write_crtc_follows : (s : Script) (m : Machine) (k index : ℕ) (old new : RegisterFile) → index < 4 → StandsForDevice s.topology m.device old
+pub write_crtc_follows : (s : Script) (m : Machine) (k index : ℕ) (old new : RegisterFile) → index < 4
+    → StandsForDevice s.topology m.device old
     → WritesCrtc old new index (new_connector s.topology m.device.commits k (object_id Crtc index)) (new_crtc s.topology m.device.commits k (object_id Crtc index)) → StandsForDevice s.topology (next s m (Write k Crtc index)).device new
 unfolding next
 write_crtc_follows s m k index old new low stands writes = rw (of_crtc index low) (writes s.topology m.device stands)
 
-pub flush_follows : (s : Script) (m : Machine) (k index : ℕ) (old new : RegisterFile) → is_on_in m.device.shadow (object_id Crtc index) ≡ (new_crtc s.topology m.device.commits k (object_id Crtc index)).active
-    → StandsForDevice s.topology m.device old → Flushes old new index → StandsForDevice s.topology (next s m (Flush k Crtc index)).device new
+pub flush_follows : (s : Script) (m : Machine) (k index : ℕ) (old new : RegisterFile)
+    → is_on_in m.device.shadow (object_id Crtc index) ≡ (new_crtc s.topology m.device.commits k (object_id Crtc index)).active
+    → StandsForDevice s.topology m.device old → Flushes old new index
+    → StandsForDevice s.topology (next s m (Flush k Crtc index)).device new
 unfolding next
-flush_follows s m k index old new same stands flushes = flush_stands s.topology m k (object_id Crtc index) new same (flushes s.topology m.device k stands)
+flush_follows s m k index old new same stands flushes =
+    flush_stands s.topology m k (object_id Crtc index) new same (flushes s.topology m.device k stands)
 
-pub vblank_follows : (s : Script) (m : Machine) (index : ℕ) (old new : RegisterFile) → StandsForDevice s.topology m.device old → Blanks old new index → StandsForDevice s.topology (next s m (Vblank Crtc index)).device new
+pub vblank_follows : (s : Script) (m : Machine) (index : ℕ) (old new : RegisterFile) → StandsForDevice s.topology m.device old
+    → Blanks old new index → StandsForDevice s.topology (next s m (Vblank Crtc index)).device new
 unfolding next
-vblank_follows s m index old new stands blanks = blank_stands s.topology m (object_id Crtc index) (go_at m.device (object_id Crtc index)) new refl (blanks s.topology m.device stands)
+vblank_follows s m index old new stands blanks =
+    blank_stands s.topology m (object_id Crtc index) (go_at m.device (object_id Crtc index)) new refl (blanks s.topology m.device stands)
 
 -- What is recorded of a latch
 
@@ -163,17 +189,20 @@ recorded_signals : (m : Machine) (fence : Option ℕ) → (signals m fence).reco
 recorded_signals m None = refl
 recorded_signals m (Some id) = refl
 
-recorded_delivers : (t : Topology) (m : Machine) (k crtc count : ℕ) (asked : Bool) → (if asked then delivers t m k crtc count else m).records.latches ≡ m.records.latches
+recorded_delivers : (t : Topology) (m : Machine) (k crtc count : ℕ) (asked : Bool)
+    → (if asked then delivers t m k crtc count else m).records.latches ≡ m.records.latches
 recorded_delivers t m k crtc count true = refl
 recorded_delivers t m k crtc count false = refl
 
-latch_recorded : (t : Topology) (m : Machine) (k crtc count : ℕ) → (latches t m k crtc count).records.latches ≡ latch_of t m.device k crtc count ∷ m.records.latches
+latch_recorded : (t : Topology) (m : Machine) (k crtc count : ℕ)
+    → (latches t m k crtc count).records.latches ≡ latch_of t m.device k crtc count ∷ m.records.latches
 unfolding latches
 latch_recorded t m k crtc count =
     recorded_signals (delivers_if t (latches_picture t m k crtc count) k crtc count) (out_fence_of t m.device.commits k crtc)
     ∙ recorded_delivers t (latches_picture t m k crtc count) k crtc count (asks_event t m.device.commits k)
 
-pub flush_recorded : (s : Script) (m : Machine) (k index : ℕ) → (new_crtc s.topology m.device.commits k (object_id Crtc index)).active ≡ false
+pub flush_recorded : (s : Script) (m : Machine) (k index : ℕ)
+    → (new_crtc s.topology m.device.commits k (object_id Crtc index)).active ≡ false
     → (next s m (Flush k Crtc index)).records.latches ≡ latch_of s.topology m.device k (object_id Crtc index) (count_at m.device (object_id Crtc index)) ∷ m.records.latches
 unfolding next
 flush_recorded s m k index off = rw off (latch_recorded s.topology _ k (object_id Crtc index) (count_at m.device (object_id Crtc index)))
@@ -185,11 +214,13 @@ vblank_recorded s m k index has = rw has (latch_recorded s.topology (counts_vbla
 
 -- What the calls ask for
 
-pub old_plane_held : (t : Topology) (d : DeviceState) (f : RegisterFile) (index : ℕ) (state : PlaneState) → StandsForDevice t d f → plane_register d.shadow (object_id Plane index) ≡ plane_words state
+pub old_plane_held : (t : Topology) (d : DeviceState) (f : RegisterFile) (index : ℕ) (state : PlaneState) → StandsForDevice t d f
+    → plane_register d.shadow (object_id Plane index) ≡ plane_words state
     → plane_register f.shadow (object_id Plane index) ≡ plane_words state
 old_plane_held t d f index state stands is = sym (stands.shadow_words.planes index) ∙ is
 
-pub old_crtc_held : (t : Topology) (d : DeviceState) (f : RegisterFile) (index conn : ℕ) (state : CrtcState) → StandsForDevice t d f → crtc_register d.shadow (object_id Crtc index) ≡ crtc_words conn state
+pub old_crtc_held : (t : Topology) (d : DeviceState) (f : RegisterFile) (index conn : ℕ) (state : CrtcState) → StandsForDevice t d f
+    → crtc_register d.shadow (object_id Crtc index) ≡ crtc_words conn state
     → crtc_register f.shadow (object_id Crtc index) ≡ crtc_words (crtc_register f.shadow (object_id Crtc index)).conn state
 unfolding crtc_words
 old_crtc_held t d f index conn state stands is =
@@ -200,6 +231,7 @@ on_flag : (b : Bool) → not (one_if b == 0) ≡ b
 on_flag true = refl
 on_flag false = refl
 
-pub on_in_words : (d : DeviceState) (crtc conn : ℕ) (state : CrtcState) → crtc_register d.shadow crtc ≡ crtc_words conn state → is_on_in d.shadow crtc ≡ state.active
+pub on_in_words : (d : DeviceState) (crtc conn : ℕ) (state : CrtcState) → crtc_register d.shadow crtc ≡ crtc_words conn state
+    → is_on_in d.shadow crtc ≡ state.active
 unfolding crtc_words
 on_in_words d crtc conn state is = ap (λ (w : CrtcWords). not (w.active == 0)) is ∙ on_flag state.active

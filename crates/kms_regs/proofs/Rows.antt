@@ -23,7 +23,8 @@ unfolding read
 read_past {A} d x rows id at other = ap (λ (b : Bool). if b then x else read d rows at) (other_id id at other)
 
 -- what stands at an index
-pub read-with_ids : {A : Type 0} (d : A) (xs : List A) (from index at : ℕ) → from + index ≡ at → read d (with_ids from xs) at ≡ get_or xs index d
+pub read-with_ids : {A : Type 0} (d : A) (xs : List A) (from index at : ℕ) → from + index ≡ at
+    → read d (with_ids from xs) at ≡ get_or xs index d
 unfolding read
 read-with_ids d [] from index at is = refl
 read-with_ids d (x ∷ xs) from zero at is = read_here d x (with_ids (from + 1) xs) from at (omega (arith, is))

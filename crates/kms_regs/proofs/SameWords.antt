@@ -18,21 +18,24 @@ use Rattle.kms_regs.proofs.BankLemmas.{copied-copied, kept-copied, later-copied}
 pub same_after : (a b c : Registers) → ReadSame a b → ReadSame b c → ReadSame a c
 same_after a b c first second = record { planes = λ i. first.planes i ∙ second.planes i; crtcs = λ i. first.crtcs i ∙ second.crtcs i }
 
-pub same_write_plane : (a b : Registers) (plane : ℕ) (words : PlaneWords) → ReadSame a b → ReadSame (write_plane a plane words) (write_plane b plane words)
+pub same_write_plane : (a b : Registers) (plane : ℕ) (words : PlaneWords) → ReadSame a b
+    → ReadSame (write_plane a plane words) (write_plane b plane words)
 unfolding read
 same_write_plane a b plane words same = record {
   planes = λ i. ap (λ (x : PlaneWords). if plane == object_id Plane i then words else x) (same.planes i);
   crtcs = same.crtcs;
 }
 
-pub same_write_crtc : (a b : Registers) (crtc : ℕ) (words : CrtcWords) → ReadSame a b → ReadSame (write_crtc a crtc words) (write_crtc b crtc words)
+pub same_write_crtc : (a b : Registers) (crtc : ℕ) (words : CrtcWords) → ReadSame a b
+    → ReadSame (write_crtc a crtc words) (write_crtc b crtc words)
 unfolding read
 same_write_crtc a b crtc words same = record {
   planes = same.planes;
   crtcs = λ i. ap (λ (x : CrtcWords). if crtc == object_id Crtc i then words else x) (same.crtcs i);
 }
 
-same_copied : (s s' l l' : Registers) (crtc i : ℕ) → ReadSame s s' → ReadSame l l' → is_copied s l crtc (object_id Plane i) ≡ is_copied s' l' crtc (object_id Plane i)
+same_copied : (s s' l l' : Registers) (crtc i : ℕ) → ReadSame s s' → ReadSame l l'
+    → is_copied s l crtc (object_id Plane i) ≡ is_copied s' l' crtc (object_id Plane i)
 same_copied s s' l l' crtc i shadow live = rw (shadow.planes i, live.planes i) refl
 
 same_latched_plane : (t : Topology) (s s' l l' : Registers) (crtc i : ℕ) → ReadSame s s' → ReadSame l l'
@@ -89,7 +92,8 @@ decoded_alike t a b crtc same seen =
     ap (λ (c : CrtcWords). if not (c.active == 0) then shown_in_words t a crtc c else Off) same
     ∙ ap (λ p. if not ((crtc_register b crtc).active == 0) then p else Off) (shown (crtc_register b crtc))
 
-pub same_decoded : (t : Topology) (a b : Registers) (index : ℕ) → ReadSame a b → decoded_picture t a (object_id Crtc index) ≡ decoded_picture t b (object_id Crtc index)
+pub same_decoded : (t : Topology) (a b : Registers) (index : ℕ) → ReadSame a b
+    → decoded_picture t a (object_id Crtc index) ≡ decoded_picture t b (object_id Crtc index)
 same_decoded t a b index same =
     decoded_alike t a b (object_id Crtc index) (same.crtcs index)
     (λ m i ls low. ap (λ (w : PlaneWords). put_plane m (object_id Plane i) (plane_in w) (seen_on (object_id Crtc index) (plane_in w)) ls) (same.planes i))

@@ -1,11 +1,6 @@
 -- The channels of a table, one behind the other.
 use Rattle.std.proofs.Common.{◌≡◌, ◌≤◌, ℕ, ◌+◌, List, ◌++◌, length, take, drop, sym, ap, ◌∙◌, append_assoc, arith}
-use Rattle.std.proofs.lemmas.List.{append-nil, drop-drop, drop_all, length-append, length-drop, take_at}
-use borrow.Rule.Slice.PartMut.{put_mid}
-
--- a part of bytes is written
-pub put_at : (a k : ℕ) (bytes values : List ℕ) → k ≡ 256 → put_mid a k bytes values ≡ take a bytes ++ (values ++ drop (a + 256) bytes)
-put_at a k bytes values is = ap (λ (rest : List ℕ). take a bytes ++ (values ++ rest)) (drop-drop k a bytes ∙ ap (λ (n : ℕ). drop (a + n) bytes) is)
+use Rattle.std.proofs.lemmas.List.{append-nil, drop_all, length-append, length-drop, take_at}
 
 abbrev after : ℕ → List ℕ → List ℕ → List ℕ
 after a bytes values = take a bytes ++ (values ++ drop (a + 256) bytes)

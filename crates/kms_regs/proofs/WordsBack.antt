@@ -54,17 +54,20 @@ plane_back s h =
 
 -- the mode that the words of a mode hold is that mode
 pub mode_back : (m : Mode) → IsWritableMode m → mode_held (bytes_of_words (mode_words (Some m))) ≡ m
-mode_back m h = ap mode_held (words_back 17 (mode_bytes m) (mode_long m h.fits.back.name) (mode_small m h.name_bytes)) ∙ mode_held-mode_bytes m h.fits
+mode_back m h =
+    ap mode_held (words_back 17 (mode_bytes m) (mode_long m h.fits.back.name) (mode_small m h.name_bytes)) ∙ mode_held-mode_bytes m h.fits
 
 -- Gamma tables
 
-gamma_read : (c : CrtcWords) (gamma : Option Gamma) → c.gamma_on ≡ one_if (is_some gamma) → c.gamma ≡ gamma_words gamma → HasGamma gamma → gamma_in_words c ≡ gamma
+gamma_read : (c : CrtcWords) (gamma : Option Gamma) → c.gamma_on ≡ one_if (is_some gamma) → c.gamma ≡ gamma_words gamma → HasGamma gamma
+    → gamma_in_words c ≡ gamma
 gamma_read c None on words has = rw on refl
 gamma_read c (Some g) on words has = rw (on, words) (ap Some (gamma_back g has))
 
 -- What words show that were written for states
 
-plane_read : (t : Topology) (rs : Registers) (crtc conn : ℕ) (s : CrtcState) (state : ℕ → PlaneState) → AreWritten t rs crtc conn s state → (i : ℕ) → i < length t.planes
+plane_read : (t : Topology) (rs : Registers) (crtc conn : ℕ) (s : CrtcState) (state : ℕ → PlaneState) → AreWritten t rs crtc conn s state
+    → (i : ℕ) → i < length t.planes
     → plane_in (plane_register rs (object_id Plane i)) ≡ state (object_id Plane i)
 plane_read t rs crtc conn s state h i low = ap plane_in (h.planes_are i low) ∙ plane_back (state (object_id Plane i)) (h.states_are i low)
 
@@ -77,7 +80,8 @@ words_with conn active mode gamma = record {
   gamma = gamma_words gamma;
 }
 
-by_state : (t : Topology) (rs : Registers) (crtc conn : ℕ) (state : ℕ → PlaneState) → ((i : ℕ) → i < length t.planes → plane_in (plane_register rs (object_id Plane i)) ≡ state (object_id Plane i))
+by_state : (t : Topology) (rs : Registers) (crtc conn : ℕ) (state : ℕ → PlaneState)
+    → ((i : ℕ) → i < length t.planes → plane_in (plane_register rs (object_id Plane i)) ≡ state (object_id Plane i))
     → (active : Bool) (mode : Option Mode) (gamma : Option Gamma) → HasMode active mode → HasGamma gamma
     → (if not (one_if active == 0) then shown_in_words t rs crtc (words_with conn active mode gamma) else Off) ≡ picture_of_states t crtc state conn gamma active mode
 by_state t rs crtc conn state read true (Some m) gamma has table =
@@ -89,7 +93,8 @@ by_state t rs crtc conn state read true (Some m) gamma has table =
 by_state t rs crtc conn state read true None gamma has table = absurd has
 by_state t rs crtc conn state read false mode gamma has table = refl
 
-pub decoded_written : (t : Topology) (rs : Registers) (crtc conn : ℕ) (s : CrtcState) (state : ℕ → PlaneState) → AreWritten t rs crtc conn s state
+pub decoded_written : (t : Topology) (rs : Registers) (crtc conn : ℕ) (s : CrtcState) (state : ℕ → PlaneState)
+    → AreWritten t rs crtc conn s state
     → decoded_picture t rs (object_id Crtc crtc) ≡ picture_of_states t (object_id Crtc crtc) state conn s.gamma s.active s.mode
 unfolding decoded_picture crtc_words
 decoded_written t rs crtc conn s state h =

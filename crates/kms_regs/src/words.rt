@@ -456,11 +456,11 @@ fn gamma_held(gamma: &Gamma) -> [u32; 192]
 fn gamma_bytes(gamma: &Gamma) -> [u8; 768]
     ensures { result ≡ gamma_bytes gamma.now }
 {
-    joined(&gamma.red, &gamma.green, &gamma.blue)
+    join(&gamma.red, &gamma.green, &gamma.blue)
 }
 
 /// The bytes of three channels, one behind the other.
-fn joined(red: &[u8; 256], green: &[u8; 256], blue: &[u8; 256]) -> [u8; 768]
+fn join(red: &[u8; 256], green: &[u8; 256], blue: &[u8; 256]) -> [u8; 768]
     ensures { result ≡ red.now ++ (green.now ++ blue.now) }
 {
     let mut bytes = [0; GAMMA_VALUES];

@@ -1,10 +1,12 @@
-//! Frames that are made of earlier ones: how many bytes of them stay.
+//! Frames that are made of earlier ones: how many bytes of them stay, and that threads make the same.
 ghost use Rattle.std.specs.Prelude.{◌≡◌};
 ghost use Rattle.kms_compose.specs.Images.{CanShow, HasImage};
 ghost use Rattle.kms_report_tests.specs.Spots.{spot_fb};
 
 use crate::spots::{OPAQUE, Spot, View, WORDS, images, picture};
-use kms_compose::{Images, frame, frame_rows, recompose, recompose_kept};
+use kms_compose::{
+    Images, SeveralDrawers, Share, frame, frame_rows, recompose, recompose_kept, recompose_rows,
+};
 use kms_model::Picture;
 use std::process::Abort;
 use std::test::Fail;
@@ -27,7 +29,11 @@ fn assert_kept<R: Abort + AllocGlobal + Threads + Sync>(
     let first = frame(alloc, old, images)?;
     let mut bytes = frame(alloc, old, images)?;
     let count = recompose_kept(alloc, &mut bytes, old, new, images)?;
-    let whole = frame_rows(rt, alloc, new, images)?;
+    let drawers = SeveralDrawers {
+        rt,
+        share: Share::Whole,
+    };
+    let whole = frame_rows(&drawers, alloc, new, images)?;
     let is_whole = bytes.as_slice() == whole.as_slice();
     recompose(alloc, &mut bytes, new, old, images)?;
     let is_back = bytes.as_slice() == first.as_slice();
@@ -119,4 +125,60 @@ fn no_row_is_kept_where_each_is_made_anew(rt: HostRuntime) -> Result<(), Fail> {
     assert_kept(&rt, &images, &old, &longer, 0, 1)?;
     assert_kept(&rt, &images, &old, &Picture::Off, 0, 2)?;
     assert_kept(&rt, &images, &Picture::Off, &old, 0, 3)
+}
+
+/// The size of a mode, and two spots in it.
+type Large = ((u16, u16), [Spot; 2]);
+
+/// Modes whose rows two threads share, and four where there are as many. The last thread has fewer rows than the others. The spots are
+/// where two bands of rows meet, and at the ends.
+const LARGE: [Large; 3] = [
+    ((512, 131), [Spot(511, 65, OPAQUE), Spot(0, 129, OPAQUE)]),
+    ((4096, 17), [Spot(4095, 8, OPAQUE), Spot(0, 16, OPAQUE)]),
+    ((257, 513), [Spot(256, 128, OPAQUE), Spot(128, 256, OPAQUE)]),
+];
+
+/// Ends the test where threads make another frame than one does: as a whole, or of one that has other pixels everywhere.
+fn assert_shared<R: Abort + AllocGlobal + Threads + Sync>(
+    rt: &R,
+    images: &Images,
+    large: &Large,
+    share: Share,
+) -> Result<(), Fail>
+    requires { HasImage images.now spot_fb }
+{
+    let alloc = rt.alloc();
+    let plain = View {
+        size: large.0,
+        spots: large.1,
+        is_flat: false,
+    };
+    let new = picture(&plain);
+    let old = picture(&View {
+        is_flat: true,
+        ..plain
+    });
+    let wanted = frame(alloc, &new, images)?;
+    let drawers = SeveralDrawers { rt, share };
+    let whole = frame_rows(&drawers, alloc, &new, images)?;
+    let mut bytes = frame(alloc, &old, images)?;
+    recompose_rows(&drawers, alloc, &mut bytes, &old, &new, images)?;
+    let is_whole = whole.as_slice() == wanted.as_slice();
+    let is_made = bytes.as_slice() == wanted.as_slice();
+    let (width, height) = large.0;
+    assert!(rt;
+        is_whole && is_made,
+        "{width}x{height}: whole {is_whole}, made {is_made}"
+    );
+    Ok(())
+}
+
+#[test]
+fn rows_that_threads_share_are_those_of_one(rt: HostRuntime) -> Result<(), Fail> {
+    let images = images(rt.alloc(), &WORDS)?;
+    for large in LARGE {
+        assert_shared(&rt, &images, &large, Share::Whole)?;
+        assert_shared(&rt, &images, &large, Share::Half)?;
+    }
+    Ok(())
 }

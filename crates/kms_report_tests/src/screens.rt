@@ -7,7 +7,7 @@ ghost use Rattle.kms_kept_frames.specs.Screens.{AreKeptFramesOver};
 
 use crate::spots::{OPAQUE, Spot, View, WORDS, images, picture};
 use kms_compose::{Frame, Images};
-use kms_kept_frames::{Fronts, Hands, OneThread, Screen, SeveralThreads};
+use kms_kept_frames::{Fronts, Hands, OneThread, Recomposes, Screen, SeveralThreads};
 use kms_model::{NoMemory, Picture};
 use std::alloc::Global;
 use std::cell::Cell;
@@ -22,11 +22,24 @@ struct Counting {
     of_other: Cell<usize>,
 }
 
-impl Hands for Counting {
+impl Recomposes for Counting {
     ghost use Rattle.std.specs.Prelude.{⊤};
 
     ghost can_work = { λ _. ⊤ };
 
+    fn recompose(
+        &self,
+        alloc: Global,
+        frame: &mut Frame,
+        old: &Picture,
+        new: &Picture,
+        images: &Images,
+    ) -> Result<usize, NoMemory> {
+        OneThread.recompose(alloc, frame, old, new, images)
+    }
+}
+
+impl Hands for Counting {
     fn frame(&self, alloc: Global, picture: &Picture, images: &Images) -> Result<Frame, NoMemory> {
         OneThread.frame(alloc, picture, images)
     }
@@ -139,7 +152,7 @@ fn large(column: i16) -> Picture
 }
 
 /// What a screen keeps that is asked for the pictures of two columns; the test ends where they have other digests.
-fn asked<R: Abort + Threads + Sync>(
+fn show_columns<R: Abort + Threads + Sync>(
     rt: &R,
     alloc: Global,
     screen: Screen,
@@ -165,7 +178,7 @@ fn asked<R: Abort + Threads + Sync>(
 fn large_frames_are_made_side_by_side(rt: HostRuntime) -> Result<(), Fail> {
     let images = images(rt.alloc(), &WORDS)?;
     let screen = dark(rt.alloc(), &images);
-    let screen = asked(&rt, rt.alloc(), screen, &images, (0, 1), &FIRST)?;
-    let _last = asked(&rt, rt.alloc(), screen, &images, (2, 3), &SECOND)?;
+    let screen = show_columns(&rt, rt.alloc(), screen, &images, (0, 1), &FIRST)?;
+    let _last = show_columns(&rt, rt.alloc(), screen, &images, (2, 3), &SECOND)?;
     Ok(())
 }

@@ -30,7 +30,8 @@ pub apart_below : (n a b : ℕ) → a ≡ n → b < n → eqb a b ≡ false
 apart_below n a b e lt = grind (arith, nat_tests)
 
 -- a slot that has another id is passed over
-option_apart : (id at owner : ℕ) (c : Content) (rest : List (Slot Buffer)) → eqb at id ≡ false → value_with_id (cons_option (store.buffer_in at owner c) rest) id ≡ value_with_id rest id
+option_apart : (id at owner : ℕ) (c : Content) (rest : List (Slot Buffer)) → eqb at id ≡ false
+    → value_with_id (cons_option (store.buffer_in at owner c) rest) id ≡ value_with_id rest id
 option_apart id at owner (content.Buffer width height format pattern) rest e = rw e refl
 option_apart id at owner (content.Framebuffer info of) rest e = refl
 option_apart id at owner (content.Mode m) rest e = refl
@@ -43,7 +44,8 @@ none_below : (n id : ℕ) (ts : List Thing) → AreNumbered n ts → id < n → 
 none_below n id [] numbered lt = refl
 none_below n id (t ∷ ts) numbered lt = option_apart id t.id t.owner t.content (buffers_of ts) (apart_below n t.id id numbered.0 lt) ∙ none_below (n + 1) id ts numbered.1 (omega arith)
 
-option_here : (id at owner : ℕ) (c : Content) (rest : List (Slot Buffer)) → eqb at id ≡ true → value_with_id rest id ≡ None → option_map seen (value_with_id (cons_option (store.buffer_in at owner c) rest) id) ≡ seen_in c
+option_here : (id at owner : ℕ) (c : Content) (rest : List (Slot Buffer)) → eqb at id ≡ true → value_with_id rest id ≡ None
+    → option_map seen (value_with_id (cons_option (store.buffer_in at owner c) rest) id) ≡ seen_in c
 option_here id at owner (content.Buffer width height format pattern) rest e none = rw e refl
 option_here id at owner (content.Framebuffer info of) rest e none = rw none refl
 option_here id at owner (content.Mode m) rest e none = rw none refl
@@ -64,12 +66,14 @@ seen_of_things n id (t ∷ ts) numbered =
 
 -- the image of a framebuffer is what others read of its buffer
 pub image_is : (ts : List Thing) (next : ℕ) (ids : Ids) (buffers : List (Slot Buffer)) (fb : ℕ) (t : Thing) (info : FbInfo) (of : ℕ)
-    → AreKept ts next ids buffers → thing_with_id ts fb ≡ Some t → t.content ≡ content.Framebuffer info of → image_of ts fb ≡ seen_with_id buffers of
+    → AreKept ts next ids buffers → thing_with_id ts fb ≡ Some t → t.content ≡ content.Framebuffer info of
+    → image_of ts fb ≡ seen_with_id buffers of
 image_is ts next ids buffers fb t info of kept at is =
     rw (at, is) (sym (ap (λ bs. seen_with_id bs of) kept.words ∙ seen_of_things 1000 of ts kept.numbered))
 
 -- what is kept of each thing is kept of the one with an id
-found_framed : (ts us : List Thing) (fb : ℕ) (t : Thing) → AllByRecursion (λ u. FramesIn us u.id u.content) ts → thing_with_id ts fb ≡ Some t → FramesIn us t.id t.content
+found_framed : (ts us : List Thing) (fb : ℕ) (t : Thing) → AllByRecursion (λ u. FramesIn us u.id u.content) ts
+    → thing_with_id ts fb ≡ Some t → FramesIn us t.id t.content
 found_framed [] us fb t all at = absurd cc
 found_framed (u ∷ ts) us fb t all at =
     elim (eqb_tells u.id fb) [
@@ -87,7 +91,8 @@ seen_some id content.OutFence b e none = absurd cc
 
 -- each framebuffer has an image
 pub has_image : (ts : List Thing) (next : ℕ) (ids : Ids) (buffers : List (Slot Buffer)) (fb : ℕ) (t : Thing) (info : FbInfo) (of : ℕ)
-    → AreKept ts next ids buffers → thing_with_id ts fb ≡ Some t → t.content ≡ content.Framebuffer info of → seen_with_id buffers of ≡ None → ⊥
+    → AreKept ts next ids buffers → thing_with_id ts fb ≡ Some t → t.content ≡ content.Framebuffer info of → seen_with_id buffers of ≡ None
+    → ⊥
 has_image ts next ids buffers fb t info of kept at is none =
     let framed : FramesIn ts t.id t.content = found_framed ts ts fb t kept.framed at in
     let f = subst (λ c. FramesIn ts t.id c) is framed in

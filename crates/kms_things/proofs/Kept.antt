@@ -39,7 +39,8 @@ append_none bs cs e = rw e (append-nil bs)
 
 -- a thing more that is no buffer
 pub kept_made : (ts : List Thing) (next : ℕ) (ids more : Ids) (buffers : List (Slot Buffer)) (t : Thing)
-    → AreKept ts next ids buffers → t.id ≡ next → ((id owner : ℕ) → buffer_in id owner t.content ≡ None) → FramesIn ts next t.content → IsIndex more (ts ++ t ∷ []) → AreKept (ts ++ t ∷ []) (next + 1) more buffers
+    → AreKept ts next ids buffers → t.id ≡ next → ((id owner : ℕ) → buffer_in id owner t.content ≡ None) → FramesIn ts next t.content
+    → IsIndex more (ts ++ t ∷ []) → AreKept (ts ++ t ∷ []) (next + 1) more buffers
 kept_made ts next ids more buffers t kept is wordless framed indexed = record {
   numbered = numbered-push 1000 ts t kept.numbered (is ∙ kept.next);
   next = length_more next ts t kept.next;
@@ -63,7 +64,8 @@ kept_buffer ts next ids more buffers label owner width height format pattern kep
       framed = framed_more ts t kept.framed tt;
     }
 
-below_option : (n : ℕ) (o : Option (Slot Buffer)) (bs : List (Slot Buffer)) → ((s : Slot Buffer) → o ≡ Some s → s.id < n) → AreBelow n bs → AreBelow n (cons_option o bs)
+below_option : (n : ℕ) (o : Option (Slot Buffer)) (bs : List (Slot Buffer)) → ((s : Slot Buffer) → o ≡ Some s → s.id < n) → AreBelow n bs
+    → AreBelow n (cons_option o bs)
 below_option n None bs one below = below
 below_option n (Some s) bs one below = (one s refl, below)
 
@@ -90,7 +92,8 @@ all_below n (t ∷ ts) numbered =
     (λ s e. (let i : s.id ≡ t.id = slot_id t.id t.owner t.content s e in omega (arith, i, numbered.0)))
     (below_more (n + 1 + length ts) (n + length (t ∷ ts)) (buffers_of ts) (omega arith) (all_below (n + 1) ts numbered.1))
 
-bytes_option : (id owner : ℕ) (c : Content) (bs : List (Slot Buffer)) → bytes_of (cons_option (buffer_in id owner c) bs) ≡ buffer_bytes c + bytes_of bs
+bytes_option : (id owner : ℕ) (c : Content) (bs : List (Slot Buffer))
+    → bytes_of (cons_option (buffer_in id owner c) bs) ≡ buffer_bytes c + bytes_of bs
 bytes_option id owner (content.Buffer width height format pattern) bs = refl
 bytes_option id owner (content.Framebuffer info of) bs = omega arith
 bytes_option id owner (content.Mode m) bs = omega arith
@@ -101,7 +104,8 @@ bytes_option id owner content.OutFence bs = omega arith
 -- the bytes of the buffers among things
 pub bytes_of_things : (ts : List Thing) → bytes_of (buffers_of ts) ≡ all_bytes ts
 bytes_of_things [] = refl
-bytes_of_things (t ∷ ts) = bytes_option t.id t.owner t.content (buffers_of ts) ∙ ap (λ (n : ℕ). buffer_bytes t.content + n) (bytes_of_things ts)
+bytes_of_things (t ∷ ts) =
+    bytes_option t.id t.owner t.content (buffers_of ts) ∙ ap (λ (n : ℕ). buffer_bytes t.content + n) (bytes_of_things ts)
 
 -- Closing
 indexed_closed : (id label : ℕ) (ts : List Thing) → id_labelled (closed_in ts id) label ≡ id_labelled ts label
@@ -121,7 +125,8 @@ words_closed id (t ∷ ts) =
     rw (one, words_closed id ts) refl
 
 -- a thing that is closed
-pub kept_closed : (ts : List Thing) (next : ℕ) (ids : Ids) (buffers : List (Slot Buffer)) (id : ℕ) → AreKept ts next ids buffers → AreKept (closed_in ts id) next ids buffers
+pub kept_closed : (ts : List Thing) (next : ℕ) (ids : Ids) (buffers : List (Slot Buffer)) (id : ℕ) → AreKept ts next ids buffers
+    → AreKept (closed_in ts id) next ids buffers
 kept_closed ts next ids buffers id kept = record {
   numbered = numbered-closed 1000 ts id kept.numbered;
   next = rw (length-map ts (closed_if id)) kept.next;
@@ -141,7 +146,8 @@ is_within : (total : ℕ) → total ≤ largest_bytes → refused_by false total
 is_within total within = let e : nat_lt largest_bytes total ≡ false = grind (arith, nat_tests) in rw e refl
 
 -- what an answer by the limits refuses
-pub refusal_told : (R : Result ℕ MakeError) (bad : Bool) (total : ℕ) → (bad ≡ true → R ≡ Err error.BadSize) → (bad ≡ false → largest_bytes < total → R ≡ Err (error.Space total))
+pub refusal_told : (R : Result ℕ MakeError) (bad : Bool) (total : ℕ) → (bad ≡ true → R ≡ Err error.BadSize)
+    → (bad ≡ false → largest_bytes < total → R ≡ Err (error.Space total))
     → (bad ≡ false → total ≤ largest_bytes → R ≡ Ok total) → number_told R ≡ refused_by bad total
 refusal_told R true total sized spaced fits = ap number_told (sized refl)
 refusal_told R false total sized spaced fits =
@@ -151,8 +157,10 @@ refusal_told R false total sized spaced fits =
     ]
 
 -- the bytes with one buffer more
-pub total_bytes : (buffers : List (Slot Buffer)) (ts : List Thing) (width height : ℕ) (format : Format) → buffers ≡ buffers_of ts → bytes_with buffers width height format ≡ all_bytes ts + area_bytes width height format
-total_bytes buffers ts width height format e = ap (λ (n : ℕ). n + area_bytes width height format) (ap (λ bs. bytes_of bs) e ∙ bytes_of_things ts)
+pub total_bytes : (buffers : List (Slot Buffer)) (ts : List Thing) (width height : ℕ) (format : Format) → buffers ≡ buffers_of ts
+    → bytes_with buffers width height format ≡ all_bytes ts + area_bytes width height format
+total_bytes buffers ts width height format e =
+    ap (λ (n : ℕ). n + area_bytes width height format) (ap (λ bs. bytes_of bs) e ∙ bytes_of_things ts)
 
 -- an out-fence more, under the label that was asked for, if any
 pub kept_fence : (ts : List Thing) (next : ℕ) (ids more : Ids) (buffers : List (Slot Buffer)) (label owner : ℕ)
@@ -163,7 +171,8 @@ kept_fence ts next ids more buffers label owner kept indexed =
     kept_made ts next ids more buffers (record { label = label; id = next; owner = owner; content = content.OutFence; is_open = true }) kept refl (λ id of. refl) tt indexed
 
 -- the index in another order of its entries
-pub kept_reordered : (ts : List Thing) (next : ℕ) (ids more : Ids) (buffers : List (Slot Buffer)) → AreKept ts next ids buffers → ((q : ℕ) → id_under more q ≡ id_under ids q) → AreKept ts next more buffers
+pub kept_reordered : (ts : List Thing) (next : ℕ) (ids more : Ids) (buffers : List (Slot Buffer)) → AreKept ts next ids buffers
+    → ((q : ℕ) → id_under more q ≡ id_under ids q) → AreKept ts next more buffers
 kept_reordered ts next ids more buffers kept same = record {
   numbered = kept.numbered;
   next = kept.next;

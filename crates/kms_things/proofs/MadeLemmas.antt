@@ -17,7 +17,8 @@ if_ok (Ok x) P Q f p = f x p
 if_ok (Err e) P Q f p = tt
 
 -- a framebuffer of a buffer that is there is made
-pub fb_added : (w : World) (made : Made) (client label buffer : ℕ) (info : FbInfo) (o : Option BufferInfo) → Some (info, buffer) ≡ option_map (framebuffer_with made.next_id) o
+pub fb_added : (w : World) (made : Made) (client label buffer : ℕ) (info : FbInfo) (o : Option BufferInfo)
+    → Some (info, buffer) ≡ option_map (framebuffer_with made.next_id) o
     → make (with_made w made) client label (content.Framebuffer info buffer) ≡ add_fb (with_made w made) client label o
 fb_added w made client label buffer info None is = absurd cc
 fb_added w made client label buffer info (Some b) is =
@@ -25,6 +26,8 @@ fb_added w made client label buffer info (Some b) is =
     ap (λ (p : FbInfo × ℕ). make (with_made w made) client label (content.Framebuffer p.0 p.1)) e
 
 -- fences under the labels of CRTCs are those of the CRTCs
-pub fences_of_crtcs : (client : ℕ) (assigns : List Assign) (w : World) (crtcs : List ℕ) → fences_made client w (map (out_fence_label assigns) crtcs) ≡ make_out_fences client assigns w crtcs
+pub fences_of_crtcs : (client : ℕ) (assigns : List Assign) (w : World) (crtcs : List ℕ)
+    → fences_made client w (map (out_fence_label assigns) crtcs) ≡ make_out_fences client assigns w crtcs
 fences_of_crtcs client assigns w [] = refl
-fences_of_crtcs client assigns w (crtc ∷ crtcs) = fences_of_crtcs client assigns (make_out_fence client w (out_fence_label assigns crtc)) crtcs
+fences_of_crtcs client assigns w (crtc ∷ crtcs) =
+    fences_of_crtcs client assigns (make_out_fence client w (out_fence_label assigns crtc)) crtcs

@@ -47,7 +47,9 @@ pub length_more : (n : ℕ) (ts : List Thing) (t : Thing) → n ≡ 1000 + lengt
 length_more n ts t e = let l : length (ts ++ t ∷ []) ≡ length ts + 1 = length-append ts (t ∷ []) in omega (arith, e, l)
 
 -- what a look-up by place answers
-pub looked_up : (ts : List Thing) (k : ℕ) (Q : Bor Thing → Type 0) (o : Option (Bor Thing)) → MatchOption o (length ts ≤ k) (λ x. (k < length ts) × Q x) → IfSome o (λ x. x.now ≡ get_or ts k x.now) → option_copied o ≡ slice_get ts k
+pub looked_up : (ts : List Thing) (k : ℕ) (Q : Bor Thing → Type 0) (o : Option (Bor Thing))
+    → MatchOption o (length ts ≤ k) (λ x. (k < length ts) × Q x) → IfSome o (λ x. x.now ≡ get_or ts k x.now)
+    → option_copied o ≡ slice_get ts k
 looked_up ts k Q None past at = sym (slice_get_past ts k past)
 looked_up ts k Q (Some x) within at = sym (slice_get_read ts (length ts) k x.now refl within.0 at)
 
@@ -57,7 +59,8 @@ first_apart n a b e lt = grind (arith, nat_tests)
 first_same : (n a b : ℕ) → a ≡ n → b ≡ n → eqb a b ≡ true
 first_same n a b e lt = grind (arith, nat_tests)
 
-by_id : (label id : ℕ) (ts : List Thing) (o : Option Thing) → AreNumbered 1000 ts → thing_labelled ts label ≡ o → Some id ≡ option_map (λ t. t.id) o → thing_with_id ts id ≡ o
+by_id : (label id : ℕ) (ts : List Thing) (o : Option Thing) → AreNumbered 1000 ts → thing_labelled ts label ≡ o
+    → Some id ≡ option_map (λ t. t.id) o → thing_with_id ts id ≡ o
 by_id label id ts None h found e = absurd cc
 by_id label id ts (Some t) h found e =
     let v : t.id ≡ id = cc e in
@@ -65,31 +68,29 @@ by_id label id ts (Some t) h found e =
     subst P v (labelled_with_id 1000 label ts t h found)
 
 -- the thing with the id of a label is the thing that was made under it
-pub labelled_by_id : (label id : ℕ) (ts : List Thing) → AreNumbered 1000 ts → Some id ≡ id_labelled ts label → thing_with_id ts id ≡ thing_labelled ts label
+pub labelled_by_id : (label id : ℕ) (ts : List Thing) → AreNumbered 1000 ts → Some id ≡ id_labelled ts label
+    → thing_with_id ts id ≡ thing_labelled ts label
 labelled_by_id label id ts h e = by_id label id ts (thing_labelled ts label) h refl e
 
 mapped_none : (o : Option Thing) → None ≡ option_map (λ t. t.id) o → o ≡ None
 mapped_none None e = refl
 mapped_none (Some t) e = absurd cc
 
--- a label that has no id names no thing
-pub unlabelled : (label : ℕ) (ts : List Thing) → None ≡ id_labelled ts label → thing_labelled ts label ≡ None
-unlabelled label ts e = mapped_none (thing_labelled ts label) e
-
-if_labelled : ℕ → Thing → Option Thing
-if_labelled label t = cond (eqb t.label label) (Some t) None
-
-labelled_more : (label : ℕ) (ts : List Thing) (t : Thing) → thing_labelled (ts ++ t ∷ []) label ≡ or_else (thing_labelled ts label) (cond (eqb t.label label) (Some t) None)
+labelled_more : (label : ℕ) (ts : List Thing) (t : Thing)
+    → thing_labelled (ts ++ t ∷ []) label ≡ or_else (thing_labelled ts label) (cond (eqb t.label label) (Some t) None)
 labelled_more label [] t = refl
-labelled_more label (u ∷ ts) t = elim (eqb_tells u.label label) [ inl here ↦ rw here.0 refl | inr away ↦ rw away.0 (labelled_more label ts t) ]
+labelled_more label (u ∷ ts) t =
+    elim (eqb_tells u.label label) [ inl here ↦ rw here.0 refl | inr away ↦ rw away.0 (labelled_more label ts t) ]
 
-mapped_else : (o : Option Thing) (b : Bool) (t : Thing) → or_else (option_map (λ u. u.id) o) (cond b (Some t.id) None) ≡ option_map (λ u. u.id) (or_else o (cond b (Some t) None))
+mapped_else : (o : Option Thing) (b : Bool) (t : Thing)
+    → or_else (option_map (λ u. u.id) o) (cond b (Some t.id) None) ≡ option_map (λ u. u.id) (or_else o (cond b (Some t) None))
 mapped_else (Some u) b t = refl
 mapped_else None true t = refl
 mapped_else None false t = refl
 
 -- the index with one thing more
-pub indexed_more : (ids more : Ids) (ts : List Thing) (t : Thing) → IsIndex ids ts → ((q : ℕ) → id_under more q ≡ or_else (id_under ids q) (cond (eqb t.label q) (Some t.id) None)) → IsIndex more (ts ++ t ∷ [])
+pub indexed_more : (ids more : Ids) (ts : List Thing) (t : Thing) → IsIndex ids ts
+    → ((q : ℕ) → id_under more q ≡ or_else (id_under ids q) (cond (eqb t.label q) (Some t.id) None)) → IsIndex more (ts ++ t ∷ [])
 indexed_more ids more ts t indexed noted =
     λ q. noted q ∙ ap (λ o. or_else o (cond (eqb t.label q) (Some t.id) None)) (indexed q) ∙ mapped_else (thing_labelled ts q) (eqb t.label q) t ∙ ap (option_map (λ (u : Thing). u.id)) (sym (labelled_more q ts t))
 
@@ -108,7 +109,8 @@ closed_past n id (t ∷ ts) h le =
     rw apart (ap (λ us. t ∷ us) (closed_past (n + 1) id ts h.1 (omega arith)))
 
 -- the thing at a place is closed, and no other
-pub closed_at : (n k id : ℕ) (ts : List Thing) (t : Thing) → AreNumbered n ts → id ≡ n + k → k < length ts → t ≡ get_or ts k t → set ts k (record t { is_open = false }) ≡ closed_in ts id
+pub closed_at : (n k id : ℕ) (ts : List Thing) (t : Thing) → AreNumbered n ts → id ≡ n + k → k < length ts → t ≡ get_or ts k t
+    → set ts k (record t { is_open = false }) ≡ closed_in ts id
 closed_at n k id [] t h is lt e = absurd (omega arith)
 closed_at n zero id (u ∷ ts) t h is lt e =
     let here : eqb u.id id ≡ true = first_same n u.id id h.0 (omega arith) in
@@ -119,6 +121,7 @@ closed_at n (suc k) id (u ∷ ts) t h is lt e =
     rw apart (ap (λ us. u ∷ us) (closed_at (n + 1) k id ts t h.1 (omega arith) (omega arith) e))
 
 -- what is found by its label is found by its own id
-pub labelled_own : (label : ℕ) (ts : List Thing) (o : Option (Bor Thing)) → AreNumbered 1000 ts → option_copied o ≡ thing_labelled ts label → IfSome o (λ t. thing_with_id ts t.now.id ≡ Some t.now)
+pub labelled_own : (label : ℕ) (ts : List Thing) (o : Option (Bor Thing)) → AreNumbered 1000 ts → option_copied o ≡ thing_labelled ts label
+    → IfSome o (λ t. thing_with_id ts t.now.id ≡ Some t.now)
 labelled_own label ts None numbered e = tt
 labelled_own label ts (Some x) numbered e = labelled_with_id 1000 label ts x.now numbered (sym e)

@@ -59,9 +59,11 @@ below_without n id (s ∷ fbs) below = elim (eqb_tells s.id id) [
 below_fewer : (n id : ℕ) (fb : Framebuffer) (fbs : List (Slot Framebuffer)) → AreBelow n fbs → AreBelow n (with_fewer fbs id fb)
 below_fewer n id fb fbs below = cond_holds (λ xs. AreBelow n xs) (fb.references == 0) (without_id fbs id) (with_value fbs id fb) (below_without n id fbs below) (below_with n id fb fbs below)
 
-below_close : (n owner id : ℕ) (fbs : List (Slot Framebuffer)) (o : Option Framebuffer) → AreBelow n fbs → AreBelow n (after_close fbs owner id o)
+below_close : (n owner id : ℕ) (fbs : List (Slot Framebuffer)) (o : Option Framebuffer) → AreBelow n fbs
+    → AreBelow n (after_close fbs owner id o)
 below_close n owner id fbs None below = below
-below_close n owner id fbs (Some fb) below = cond_holds (λ xs. AreBelow n xs) (may_close owner fb) (with_fewer fbs id (closed fb)) fbs (below_fewer n id (closed fb) fbs below) below
+below_close n owner id fbs (Some fb) below =
+    cond_holds (λ xs. AreBelow n xs) (may_close owner fb) (with_fewer fbs id (closed fb)) fbs (below_fewer n id (closed fb) fbs below) below
 
 below_take : (n id : ℕ) (fbs : List (Slot Framebuffer)) (o : Option Framebuffer) → AreBelow n fbs → AreBelow n (after_take fbs id o)
 below_take n id fbs None below = below
@@ -83,7 +85,8 @@ append_none : (xs ys : List (Slot Framebuffer)) → ys ≡ [] → xs ++ ys ≡ x
 append_none xs ys e = rw e (append-nil xs)
 
 -- one that is no framebuffer
-pub referred_made : (things : List Thing) (next : ℕ) (fbs : List (Slot Framebuffer)) (t : Thing) → t.is_open ≡ true → ((owner : ℕ) → fb_of_content owner t.content ≡ None)
+pub referred_made : (things : List Thing) (next : ℕ) (fbs : List (Slot Framebuffer)) (t : Thing) → t.is_open ≡ true
+    → ((owner : ℕ) → fb_of_content owner t.content ≡ None)
     → AreReferred things next fbs → AreReferred (things ++ t ∷ []) (next + 1) fbs
 referred_made things next fbs t opened none referred = record {
   below = below_further next (next + 1) fbs (omega arith) referred.below;
@@ -114,18 +117,22 @@ no_fb_at None is = absurd cc
 no_fb_at (Some t) is = no_fb t.is_open t t.content refl refl (cc is)
 
 -- a blob that is destroyed
-pub referred_destroyed : (things : List Thing) (next : ℕ) (fbs : List (Slot Framebuffer)) (id : ℕ) → AreNumbered 1000 things → IsBlobAt things id → AreReferred things next fbs → AreReferred (closed_in things id) next fbs
+pub referred_destroyed : (things : List Thing) (next : ℕ) (fbs : List (Slot Framebuffer)) (id : ℕ) → AreNumbered 1000 things
+    → IsBlobAt things id → AreReferred things next fbs → AreReferred (closed_in things id) next fbs
 referred_destroyed things next fbs id numbered blob referred =
     let none : value_with_id (open_fbs_of things) id ≡ None = found_open fb_of_content 1000 id things numbered ∙ no_fb_at (thing_with_id things id) blob in
     record { below = referred.below; same = closed_values fb_of_content id things ∙ absent (open_fbs_of things) id none ∙ referred.same }
 
-closed_ok : {A : Type 0} (R : Result A Denied) (things : List Thing) (id : ℕ) → denial R ≡ None → things_after R things id ≡ closed_in things id
+closed_ok : {A : Type 0} (R : Result A Denied) (things : List Thing) (id : ℕ) → denial R ≡ None
+    → things_after R things id ≡ closed_in things id
 closed_ok (Ok x) things id none = refl
 closed_ok (Err e) things id none = absurd cc
 
 -- a framebuffer that is closed
-pub referred_closed : {A : Type 0} (R : Result A Denied) (things : List Thing) (next : ℕ) (fbs new : List (Slot Framebuffer)) (owner id : ℕ) → new ≡ fbs_closed fbs owner id
-    → open_fbs_of (things_after R things id) ≡ open_fbs new → denial R ≡ None → AreReferred things next fbs → AreReferred (closed_in things id) next new
+pub referred_closed : {A : Type 0} (R : Result A Denied) (things : List Thing) (next : ℕ) (fbs new : List (Slot Framebuffer)) (owner id : ℕ)
+    → new ≡ fbs_closed fbs owner id
+    → open_fbs_of (things_after R things id) ≡ open_fbs new → denial R ≡ None → AreReferred things next fbs
+    → AreReferred (closed_in things id) next new
 referred_closed R things next fbs new owner id is same ok referred = record {
   below = rw is (below_close next owner id fbs (value_with_id fbs id) referred.below);
   same = ap open_fbs_of (sym (closed_ok R things id ok)) ∙ same;
@@ -133,19 +140,21 @@ referred_closed R things next fbs new owner id is same ok referred = record {
 
 -- References
 
-pub referred_taken : (things : List Thing) (next : ℕ) (fbs new : List (Slot Framebuffer)) (id : ℕ) → new ≡ fbs_taken fbs id → open_fbs new ≡ open_fbs fbs → AreReferred things next fbs → AreReferred things next new
-referred_taken things next fbs new id is same referred = record { below = rw is (below_take next id fbs (value_with_id fbs id) referred.below); same = referred.same ∙ sym same }
+pub referred_taken : (things : List Thing) (next : ℕ) (fbs new : List (Slot Framebuffer)) (id : ℕ) → new ≡ fbs_taken fbs id
+    → open_fbs new ≡ open_fbs fbs → AreReferred things next fbs → AreReferred things next new
+referred_taken things next fbs new id is same referred =
+    record { below = rw is (below_take next id fbs (value_with_id fbs id) referred.below); same = referred.same ∙ sym same }
 
-pub referred_given : (things : List Thing) (next : ℕ) (fbs new : List (Slot Framebuffer)) (id : ℕ) → new ≡ fbs_given fbs id → open_fbs new ≡ open_fbs fbs → AreReferred things next fbs → AreReferred things next new
-referred_given things next fbs new id is same referred = record { below = rw is (below_give next id fbs (value_with_id fbs id) referred.below); same = referred.same ∙ sym same }
+pub referred_given : (things : List Thing) (next : ℕ) (fbs new : List (Slot Framebuffer)) (id : ℕ) → new ≡ fbs_given fbs id
+    → open_fbs new ≡ open_fbs fbs → AreReferred things next fbs → AreReferred things next new
+referred_given things next fbs new id is same referred =
+    record { below = rw is (below_give next id fbs (value_with_id fbs id) referred.below); same = referred.same ∙ sym same }
 
 -- a blob that may be destroyed is one
-blob_if : (client : ℕ) (t : Thing) (b : Bool) → (is_blob t.content && t.is_open) ≡ b → destroy_refusal client (Some t) ≡ None → is_blob t.content ≡ true
+blob_if : (client : ℕ) (t : Thing) (b : Bool) → (is_blob t.content && t.is_open) ≡ b → destroy_refusal client (Some t) ≡ None
+    → is_blob t.content ≡ true
 blob_if client t true is none = left (is_blob t.content) t.is_open is where
   left : (x y : Bool) → (x && y) ≡ true → x ≡ true
   left true y e = refl
   left false y e = absurd cc
 blob_if client t false is none = absurd (let e : Some 33 ≡ None = rw is at none in cc)
-
-pub blob_at : (things : List Thing) (client id : ℕ) (t : Thing) → thing_with_id things id ≡ Some t → destroy_refusal client (Some t) ≡ None → IsBlobAt things id
-blob_at things client id t at none = rw at (ap Some (blob_if client t (is_blob t.content && t.is_open) refl none))

@@ -41,7 +41,8 @@ crtc_off t i device =
     λ kind crtc some. mask_none (λ index. crtc_at values (object_id kind index) == crtc) (count_of t kind) (λ index. not_on (crtc_at values (object_id kind index)) crtc (start-crtc t (object_id kind index) device) some) in
     rw (start-zero t (object_id kind.Crtc i) ACTIVE device refl, none kind.Plane (object_id kind.Crtc i) (omega arith), none kind.Conn (object_id kind.Crtc i) (omega arith)) refl
 
-plane_off : (t : Topology) (i : ℕ) (info : PlaneInfo) → IsDevice t → slice_get t.planes i ≡ Some info → off_plane i ≡ plane_at [] (start t).values (object_id kind.Plane i)
+plane_off : (t : Topology) (i : ℕ) (info : PlaneInfo) → IsDevice t → slice_get t.planes i ≡ Some info
+    → off_plane i ≡ plane_at [] (start t).values (object_id kind.Plane i)
 plane_off t i info device at =
     let v = λ (q : ℕ) (has : has_number (plane_numbers i info) q ≡ true). plane_value t i q info device at has in
     rw (v CRTC_ID refl, v CRTC_X refl, v CRTC_Y refl, v CRTC_W refl, v CRTC_H refl, v SRC_X refl, v SRC_Y refl, v SRC_W refl, v SRC_H refl, v ALPHA refl, v BLEND refl, v ZPOS refl) refl
@@ -64,13 +65,15 @@ range_past g a (suc n) (suc i) le = range_past g (a + 1) n i (omega arith)
 abbrev state_if : {S : Type 0} → (ℕ → S) → ℕ → ℕ → Option (Both S)
 state_if f count index = cond (nat_lt index count) (Some (alike (f index))) None
 
-below_get : {S : Type 0} (room : ℕ) (f : ℕ → S) (count index : ℕ) → index < room → slice_get (states_below room f count) index ≡ Some (state_if f count index)
+below_get : {S : Type 0} (room : ℕ) (f : ℕ → S) (count index : ℕ) → index < room
+    → slice_get (states_below room f count) index ≡ Some (state_if f count index)
 below_get room f count index lt = range_get (state_if f count) 0 room index lt ∙ ap (λ k. Some (state_if f count k)) (omega arith)
 
 below_past : {S : Type 0} (room : ℕ) (f : ℕ → S) (count index : ℕ) → room ≤ index → slice_get (states_below room f count) index ≡ None
 below_past room f count index le = range_past (state_if f count) 0 room index le
 
-below_there : {S : Type 0} (room : ℕ) (f : ℕ → S) (count index : ℕ) → count ≤ room → index < count → state_at (states_below room f count) index ≡ Some (alike (f index))
+below_there : {S : Type 0} (room : ℕ) (f : ℕ → S) (count index : ℕ) → count ≤ room → index < count
+    → state_at (states_below room f count) index ≡ Some (alike (f index))
 below_there room f count index few lt = let e : nat_lt index count ≡ true = grind (arith, nat_tests) in rw (below_get room f count index (omega arith), e) refl
 
 below_none : {S : Type 0} (room : ℕ) (f : ℕ → S) (count index : ℕ) → count ≤ index → state_at (states_below room f count) index ≡ None
@@ -88,7 +91,8 @@ below_whole room f count few = record {
 }
 
 -- a state that is there is that of its index
-below_both : {S : Type 0} (room : ℕ) (f : ℕ → S) (count index : ℕ) (both : Both S) → count ≤ room → slice_get (states_below room f count) index ≡ Some (Some both) → (index < count) × (both ≡ alike (f index))
+below_both : {S : Type 0} (room : ℕ) (f : ℕ → S) (count index : ℕ) (both : Both S) → count ≤ room
+    → slice_get (states_below room f count) index ≡ Some (Some both) → (index < count) × (both ≡ alike (f index))
 below_both room f count index both few at =
     let d : state_at (states_below room f count) index ≡ Some both = rw at refl in
     elim (cases_lt index count) [
@@ -96,10 +100,12 @@ below_both room f count index both few at =
       | inr le ↦ absurd (let n = below_none room f count index le in cc)
     ]
 
-below_old : {S : Type 0} (room : ℕ) (f g : ℕ → S) (count : ℕ) → count ≤ room → ((index : ℕ) → index < count → f index ≡ g index) → AreOld g (states_below room f count)
+below_old : {S : Type 0} (room : ℕ) (f g : ℕ → S) (count : ℕ) → count ≤ room → ((index : ℕ) → index < count → f index ≡ g index)
+    → AreOld g (states_below room f count)
 below_old room f g count few same index both at = let b = below_both room f count index both few at in ap (λ (x : Both _). x.old) b.1 ∙ same index b.0
 
-below_new : {S : Type 0} (room : ℕ) (f g : ℕ → S) (count : ℕ) → count ≤ room → ((index : ℕ) → index < count → f index ≡ g index) → AreNew g (states_below room f count)
+below_new : {S : Type 0} (room : ℕ) (f g : ℕ → S) (count : ℕ) → count ≤ room → ((index : ℕ) → index < count → f index ≡ g index)
+    → AreNew g (states_below room f count)
 below_new room f g count few same index both at = let b = below_both room f count index both few at in ap (λ (x : Both _). x.new) b.1 ∙ same index b.0
 
 plane_there : (planes : List PlaneInfo) (i : ℕ) → i < length planes → (info : PlaneInfo) × (slice_get planes i ≡ Some info)

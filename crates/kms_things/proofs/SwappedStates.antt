@@ -17,11 +17,13 @@ use Rattle.kms_things.specs.Present.{AreWhole, IsAfter, IsPresent}
 use Rattle.kms_things.specs.Swapping.{alike_new, swapped, swapped_states}
 
 -- one state more is swapped
-pub swap_more : {S : Type 0} (before now : List (Option (Both S))) (i : ℕ) (d new : Option (Both S)) → i < length before → now ≡ swapped_states (take i before) ++ drop i before → new ≡ alike_new (get_or now i d)
+pub swap_more : {S : Type 0} (before now : List (Option (Both S))) (i : ℕ) (d new : Option (Both S)) → i < length before
+    → now ≡ swapped_states (take i before) ++ drop i before → new ≡ alike_new (get_or now i d)
     → set now i new ≡ swapped_states (take (i + 1) before) ++ drop (i + 1) before
 swap_more {S} before now i d new lt is one = grind (arith, common_steps, map_over_more (alike_new {S = S}))
 
-swapped_at : {S : Type 0} (states : List (Option (Both S))) (index : ℕ) → slice_get (swapped_states states) index ≡ option_map alike_new (slice_get states index)
+swapped_at : {S : Type 0} (states : List (Option (Both S))) (index : ℕ)
+    → slice_get (swapped_states states) index ≡ option_map alike_new (slice_get states index)
 swapped_at [] index = refl
 swapped_at (s ∷ states) zero = refl
 swapped_at (s ∷ states) (suc index) = swapped_at states index
@@ -61,7 +63,8 @@ swapped_new f states new index both at =
     ap (λ (b : Both _). b.new) w.same ∙ new index w.was w.at
 
 -- states after a request are the present ones where its values hold
-pub swapped_present : (t : Topology) (w : World) (r : Request) (d : Duplicates) → IsAfter t w r d → IsPresent t (record w { values = after w r }) (swapped d)
+pub swapped_present : (t : Topology) (w : World) (r : Request) (d : Duplicates) → IsAfter t w r d
+    → IsPresent t (record w { values = after w r }) (swapped d)
 swapped_present t w r d is = record {
   whole = record { crtcs = swapped_whole t.crtcs d.crtcs is.whole.crtcs; planes = swapped_whole (length t.planes) d.planes is.whole.planes; conns = swapped_whole (length t.conns) d.conns is.whole.conns };
   old = record { crtcs = swapped_old _ d.crtcs is.new.crtcs; planes = swapped_old _ d.planes is.new.planes; conns = swapped_old _ d.conns is.new.conns };

@@ -26,7 +26,8 @@ fbs_without made client None refusal = made.fbs
 -- the framebuffers with their references after a client's command
 abbrev pub fbs_after : Made → ℕ → Command → List (Slot Framebuffer)
 fbs_after made client (command.AddFb label buffer) = fbs_added made client (buffer_of made.things client buffer)
-fbs_after made client (command.CloseFb label) = fbs_without made client (thing_labelled made.things label) (close_refusal client (thing_labelled made.things label))
+fbs_after made client (command.CloseFb label) =
+    fbs_without made client (thing_labelled made.things label) (close_refusal client (thing_labelled made.things label))
 fbs_after made client (command.Buffer label width height format pattern) = made.fbs
 fbs_after made client (command.Mode label m) = made.fbs
 fbs_after made client (command.Blob label bytes) = made.fbs

@@ -2,7 +2,7 @@
 //!
 //! `Things` has the blobs, buffers, framebuffers and fences, open and closed, by label and by id, and executes the
 //! commands that make and close them. No call takes longer after many things were made than after few, but for the
-//! memory that they take, and for `mode_label`, which looks for a mode among all of them. `start_states` and `swapped`
+//! memory that they take, and for `mode_label`, which looks for a mode among all of them. `start_states` and `swap`
 //! give the states of all objects before the first command and after an accepted request.
 #![tactic(auto)]
 
@@ -17,5 +17,5 @@ mod swapping;
 mod things;
 
 pub use starting::start_states;
-pub use swapping::swapped;
+pub use swapping::swap;
 pub use things::Things;

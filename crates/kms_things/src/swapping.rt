@@ -11,7 +11,7 @@ use kms_model::{Both, Duplicates};
 
 /// The present states of all objects once a request is committed, old and new alike, by the states before and after it.
 /// (Kernel: `drm_atomic_helper_swap_state`.)
-pub fn swapped(states: &Duplicates) -> Duplicates
+pub fn swap(states: &Duplicates) -> Duplicates
     ensures states { result ≡ swapped states.now }
     ensures present { (t : Topology) (w : World) (r : Request) → IsAfter t w r states.now
         → IsPresent t (record w { values = after w r }) result }

@@ -6,7 +6,9 @@ pub loop-index-init : goal.loop-index-init
 loop-index-init c = record { long = search rules; first = λ i below. absurd (omega (arith, below)) }
 
 pub loop-index-preserved : goal.loop-index-preserved
-loop-index-preserved c = first_next c.loop-index.planes c.loop-index.index c.first.result c.loop-index.invariant c.loop-index-test.true c.first.ensures
+loop-index-preserved c =
+    first_next c.loop-index.planes c.loop-index.index c.first.result c.loop-index.invariant c.loop-index-test.true c.first.ensures
 
 pub returns : goal.returns
-returns c = first_all c.loop-index.planes c.loop-index.index c.first-2.result c.loop-index.invariant c.loop-index-test.false c.first-2.ensures
+returns c =
+    first_all c.loop-index.planes c.loop-index.index c.first-2.result c.loop-index.invariant c.loop-index-test.false c.first-2.ensures

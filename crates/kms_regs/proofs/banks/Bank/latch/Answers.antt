@@ -8,7 +8,8 @@ pub loop-plane-init : goal.loop-plane-init
 loop-plane-init c = none_latched c.args.shadow.now c.args.self.now _
 
 pub loop-plane-preserved : goal.loop-plane-preserved
-loop-plane-preserved c = latched_next c.args.shadow.now c.args.self.now c.loop-plane.self _ _ c.loop-plane.plane c.loop-plane.invariant c.latch_plane.ensures
+loop-plane-preserved c =
+    latched_next c.args.shadow.now c.args.self.now c.loop-plane.self _ _ c.loop-plane.plane c.loop-plane.invariant c.latch_plane.ensures
 
 pub returns : goal.returns
 returns c = λ t of_device.

@@ -12,4 +12,5 @@ returns-clause-rewrites c = λ t d stands.
     rewrote_crtc t d c.self.inside.planes c.self.inside.shadow c.self.inside.live c.self.inside.go c.self.inside.counts c.args.index _ _ _ _ c.write_crtc.new.self (opened t d _ c.args.self.now c.self.view_is stands) (c.of-old.ensures ∙ ap (λ n. crtc_words n c.args.old.now) there) c.of.ensures c.write_crtc.ensures)
 
 pub returns-clause-writes : goal.returns-clause-writes
-returns-clause-writes c = λ is. writes_crtc c.args.self.now _ c.args.index _ c.args.conn c.args.old.now c.args.new.now (returns-clause-rewrites c) is
+returns-clause-writes c =
+    λ is. writes_crtc c.args.self.now _ c.args.index _ c.args.conn c.args.old.now c.args.new.now (returns-clause-rewrites c) is

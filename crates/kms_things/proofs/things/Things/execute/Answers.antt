@@ -8,7 +8,8 @@ returns-in-Mode-clause-executed c = if_ok c.make.result _ _ (λ r made t w. rw c
 
 pub returns-in_ok-bytes-in-Blob-clause-executed : goal.returns-in_ok-bytes-in-Blob-clause-executed
 unfolding execute
-returns-in_ok-bytes-in-Blob-clause-executed c = if_ok c.make-in-Blob.result _ _ (λ r made t w. rw (c.in-Blob.is, ← c.in_ok-bytes-in-Blob.ensures) (made w)) c.make-in-Blob.ensures.made
+returns-in_ok-bytes-in-Blob-clause-executed c =
+    if_ok c.make-in-Blob.result _ _ (λ r made t w. rw (c.in-Blob.is, ← c.in_ok-bytes-in-Blob.ensures) (made w)) c.make-in-Blob.ensures.made
 
 pub returns-in-Fence-clause-executed : goal.returns-in-Fence-clause-executed
 unfolding execute

@@ -1,6 +1,6 @@
 use Rattle.std.proofs.Common.{List, ℕ, replicate, ap, refl, ◌∙◌, ◌++◌, take, drop, rules}
 use Rattle.kms_regs.proofs.TableBytes.{three_parts}
-use Rattle.kms_regs.proofs.words.joined.Goals as goal
+use Rattle.kms_regs.proofs.words.join.Goals as goal
 
 pub returns : goal.returns
 returns c =
