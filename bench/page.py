@@ -1,10 +1,12 @@
 #!/usr/bin/env python3
-"""Times ten frames of 1920x1080 by the module of the page in Chromium, in turn with the program on one processor.
+"""Times ten frames of 1920x1080 by the module of the page in Chromium, in turn with the program on one processor and on all.
 
 usage: bench/page.py PROGRAM PAGE [RUNS]      PAGE: a folder that web/build.sh made; RUNS: 7 if not told
 
-Both write the same report. Each run of the page has an instance of its own, as the page itself has; to compile the module is left out.
-Printed are, for each run, the time by the clock, and the processor time of the program and of all the browser's processes.
+All write the same report. The page's module has one thread, so it is compared with the program on one processor; the program on all
+processors composes and digests by as many threads, and is told besides. Each run of the page has an instance of its own, as the page
+itself has; to compile the module is left out. Printed are, for each run, the time by the clock and the processor time in milliseconds,
+of the browser that of all its processes; and in the last line the ratios of the medians.
 """
 import contextlib
 import functools
@@ -24,7 +26,9 @@ import browser  # noqa: E402
 
 SCRIPT = TOP / "bench/frames/frames.kms"
 OPEN = """(async () => {
-    const { open } = await import('./module.js'), device = await open(), script = new TextEncoder().encode(%r);
+    const { compile, open } = await import('./module.js'), script = new TextEncoder().encode(%r);
+    window.compiled ??= compile();
+    const device = await open(compiled);
     window.call = () => new TextDecoder().decode(device.call('one', script, 0, 65536).text);
 })()"""
 TICKS = os.sysconf("SC_CLK_TCK")
@@ -48,10 +52,10 @@ def spent(process):
     return sum(found[it][1] for it in below if it in found) * 1000 / TICKS
 
 
-def by_program(program):
+def by_program(words):
     began, before = time.monotonic(), resource.getrusage(resource.RUSAGE_CHILDREN)
     with SCRIPT.open("rb") as script:
-        said = subprocess.run(["taskset", "-c", "0", program, "one"], stdin=script, capture_output=True, check=True).stdout.decode()
+        said = subprocess.run([*words, "one"], stdin=script, capture_output=True, check=True).stdout.decode()
     after = resource.getrusage(resource.RUSAGE_CHILDREN)
     used = after.ru_utime + after.ru_stime - before.ru_utime - before.ru_stime
     return 1000 * (time.monotonic() - began), 1000 * used, said
@@ -78,13 +82,17 @@ def main():
         page.go(f"http://127.0.0.1:{server.server_port}/")
         page.wait("document.readyState === 'complete' && location.protocol === 'http:'")
         for _ in range(runs):
-            *native, wanted = by_program(program)
+            *alone, wanted = by_program(["taskset", "-c", "0", program])
+            *wide, same = by_program([program])
             *wasm, said = by_page(page)
-            assert said == wanted
-            times.append(native + wasm)
-            print("the program {:.0f} ms ({:.0f}), the page {:.0f} ms ({:.0f})".format(*times[-1]))
-    clock, processor, wide_clock, wide_processor = (statistics.median(it) for it in zip(*times))
-    print(f"medians: {wide_clock / clock:.2f} times by the clock, {wide_processor / processor:.2f} times the processor's time")
+            assert said == same == wanted
+            times.append(alone + wide + wasm)
+            print("on one processor {:.0f} ms ({:.0f}), on all {:.0f} ms ({:.0f}), the page {:.0f} ms ({:.0f})".format(*times[-1]))
+    alone, used, wide, _, wasm, wasm_used = (statistics.median(it) for it in zip(*times))
+    print(
+        f"the page takes {wasm / alone:.2f} times the program's time by the clock and {wasm_used / used:.2f} times its processor time, "
+        f"by medians of {runs} runs; {wasm / wide:.2f} times by the clock where the program has all {os.cpu_count()} processors"
+    )
 
 
 if __name__ == "__main__":

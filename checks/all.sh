@@ -34,6 +34,7 @@ check() {
 }
 
 check examples "taskset nproc python3" "$top/checks/examples.sh" "$program"
+check threads "taskset nproc timeout" "$top/checks/threads.sh" "$program"
 check tutorial "" "$top/checks/tutorial.sh" "$program"
 check kernel "" "$top/checks/kernel.sh" "$program"
 check device_tables "" "$top/checks/device_tables.sh" --check
@@ -49,5 +50,6 @@ check record "" "$top/checks/record.sh" "$program"
 check conform python3 "$top/checks/conform.sh" "$program"
 check library "rt cc python3 rustc" "$top/checks/library.sh"
 check page "node python3" node "$top/web/test.mjs"
+check page_in_browser "python3 rt" "$top/checks/page.sh"
 echo "$passed passed, $failed failed"
 [ "$failed" -eq 0 ]

@@ -15,5 +15,6 @@ cp "$here"/{index.html,style.css} "$here"/*.js "$out"
 cp "$top"/examples/*.kms "$top"/examples/*.replay "$out/examples"
 python3 "$here/words.py" > "$out/words.json"
 (cd "$out/examples" && python3 -c 'import json, os; print(json.dumps(sorted(os.listdir())))') > "$out/examples.json"
-[ -n "$page_only" ] || "$here/to_wasm.sh" "$top/crates/kms_c" "$out/kms.wasm" kms_one kms_replay kms_verdicts kms_suspend kms_legacy
+calls=(kms_one kms_replay kms_verdicts kms_suspend kms_legacy kms_audit)
+[ -n "$page_only" ] || "$here/to_wasm.sh" "$top/crates/kms_c" "$out/kms.wasm" "${calls[@]}"
 echo "$out"

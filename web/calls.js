@@ -1,7 +1,7 @@
 // The numbers of c/kms.h, and what they mean.
 
 export const TRACE = 1, PPM = 2; // options
-export const DRAINED = 0, ROOM = 2, OPTIONS = 3, FAULT = 4, STALLED = 5, MEMORY = 6, ILLEGAL = 7, OPEN = 8, CLOSED = 10;
+export const DRAINED = 0, ROOM = 2, OPTIONS = 3, FAULT = 4, STALLED = 5, MEMORY = 6, ILLEGAL = 7, OPEN = 8, WRONG = 9, CLOSED = 10;
 
 const WHY = {
   1: "a byte that no line may have",
@@ -20,11 +20,15 @@ const MEANING = {
   [MEMORY]: () => "There was not enough memory, so there is no answer.",
   [ILLEGAL]: ({ place }) => `Step ${place} of the schedule is not legal.`,
   [OPEN]: () => "The schedule ends before the history does.",
+  [WRONG]: ({ line }) => `Line ${line} of the report is the first that is not right.`,
   [CLOSED]: ({ object }) => `What the object ${object} shows has no name any more, so it cannot be brought back.`,
 };
 
 // Whether a call with this status has written a text.
 export const isWritten = (status) => status === DRAINED || status === STALLED || status === OPEN;
 
-// What a call told, in a sentence.
-export const meaningOf = (told) => MEANING[told.status]?.(told) ?? `The device ended with the status ${told.status}, which is unknown.`;
+// What a call for a word of the program told, in a sentence.
+export function meaningOf(told, word) {
+  if (word === "audit" && told.status === DRAINED) return "Audit: yes. Each line of the report is right.";
+  return MEANING[told.status]?.(told) ?? `The device ended with the status ${told.status}, which is unknown.`;
+}

@@ -1,6 +1,7 @@
 // The worker: it runs the device on a script in phases, and tells each one's text as soon as it is there. To stop it, the page
 // ends the worker.
 import { isWritten, PPM, TRACE } from "./calls.js";
+import { Estimate, firstPart, isTried } from "./estimate.js";
 import { framesOf, MOST_FRAMES, MOST_PIXELS, roomForFrames } from "./frames.js";
 import { open } from "./module.js";
 import { isOff, readReport } from "./report.js";
@@ -15,6 +16,7 @@ const PHASES = {
   replay: { report: (run) => run.report("replay"), frames: (run) => run.frames("replay") },
   suspend: { report: (run) => run.text("suspend", 0, "report") },
   legacy: { script: (run) => run.text("legacy", 0, "script") },
+  audit: { audit: (run) => run.device.audit(run.bytes) },
 };
 
 class Run {
@@ -28,9 +30,13 @@ class Run {
     const told = this.device.call(word, this.bytes, options, FIRST_ROOM);
     if (isWritten(told.status)) {
       this.written = new TextDecoder().decode(told.text);
-      postMessage({ kind, text: this.written });
+      this.post({ kind, text: this.written });
     }
     return told;
+  }
+
+  post(message) {
+    postMessage(message);
   }
 
   report(word) {
@@ -59,16 +65,46 @@ class Run {
   }
 }
 
+// A run of a first part alone, of which nothing is shown.
+class Trial extends Run {
+  post() {}
+  postFrames() {}
+}
+
 // What a call told, without the text, which stays in the module's memory.
 const withoutText = ({ text, ...told }) => told;
 
-async function execute({ bytes, word }) {
-  const run = new Run(await open(), bytes);
+// Tells that a phase begins, and when, since the page may be at other work.
+function tellPhase(phase, expected) {
+  postMessage({ kind: "phase", phase, expected, at: performance.timeOrigin + performance.now() });
+}
+
+// What a first part of a long script lets expect. It has an instance of its own, so the run goes on whatever becomes of that.
+async function estimate({ bytes, word, module }) {
+  if (!isTried(bytes, word)) return null;
+  tellPhase("part");
+  const part = firstPart(bytes), expected = new Estimate(bytes.length, part.length);
+  try {
+    const trial = new Trial(await open(module), part), phases = Object.entries(PHASES[word]);
+    phases[0][1](trial); // (untimed: code is slow until it has run for a while)
+    phases.every(([phase, begin]) => expected.tryPhase(phase, () => begin(trial)));
+  } catch {
+    // (A trap: then less is known.)
+  }
+  return expected;
+}
+
+async function execute(asked) {
+  const { bytes, word, module } = asked, expected = await estimate(asked), run = new Run(await open(module), bytes);
   let last = null;
   for (const [phase, begin] of Object.entries(PHASES[word])) {
-    postMessage({ kind: "phase", phase });
+    tellPhase(phase, expected?.of(phase));
+    const began = performance.now();
     last = begin(run) ?? last;
     await run.pictures;
+    const time = performance.now() - began;
+    expected?.learn(phase, time);
+    postMessage({ kind: "took", time });
     if (!isWritten(last.status)) break;
   }
   postMessage({ kind: "end", told: withoutText(last) });

@@ -58,8 +58,10 @@ export class History {
     return row;
   }
 
+  // (A row may come into sight when another report has just taken its place.)
   drawRow(row) {
     this.sight.unobserve(row);
+    if (!this.canvas) return;
     row.innerHTML = this.canvas.rowPicture(Number(row.dataset.row));
     markChosen(row, this.chosen);
     this.point();

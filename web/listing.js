@@ -2,6 +2,7 @@
 // they are made block by block, where they come into sight.
 import { belongTo, element, markChosen, scrollWithin } from "./elements.js";
 import { commitOf, isRefused, keyOf } from "./report.js";
+import { linesBeforeReport } from "./script.js";
 import { ruleOf } from "./steps.js";
 
 const BLOCK = 256; // lines
@@ -18,6 +19,7 @@ export class Listing {
   // Shows a script that has no replies yet.
   show(script) {
     Object.assign(this, { script, replies: new Map(), fault: null, chosen: {}, lineOf: new Map() });
+    this.before = linesBeforeReport(script.lines);
     this.commandAt = new Map([...script.commands.values()].map((command) => [command.line, command]));
     this.sight.disconnect();
     const blocks = Math.ceil(script.lines.length / BLOCK);
@@ -44,15 +46,17 @@ export class Listing {
   line(number, text) {
     const command = this.commandAt.get(number), reply = command && this.replies.get(keyOf(command.client, command.number));
     const line = lineFor(number, text, command, reply ?? this.silence, this.rules);
+    if (number > this.before) line.firstChild.textContent = number - this.before; // (the lines of a report are counted by themselves)
     if (this.fault?.line === number) {
-      line.className = "refused";
+      line.className = "refused fault";
       line.append(element("p", { text: this.fault.words }));
     }
     return line;
   }
 
-  // What stands beside a command that has no reply.
+  // What stands beside a command that has no reply. An audit makes none.
   get silence() {
+    if (this.before < this.script.lines.length) return { words: [""], isSilent: true };
     return { words: [this.replies.size === 0 ? "no answer yet" : "no answer"], isSilent: true };
   }
 

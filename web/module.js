@@ -8,20 +8,29 @@ const TOLD = 32; // bytes of struct kms_told
 // The smallest module with a memory of 64-bit addresses.
 const WIDE_MEMORY = Uint8Array.of(0x00, 0x61, 0x73, 0x6d, 1, 0, 0, 0, 5, 3, 1, 4, 0);
 
-async function compile() {
+// The module. Its code may be shared by instances; nothing else is.
+export async function compile() {
   if (!WebAssembly.validate(WIDE_MEMORY)) throw new Error("this browser has no WebAssembly memory of 64-bit addresses");
   const answer = await fetch(FILE);
   if (!answer.ok) throw new Error("kms.wasm is not beside the page: web/build.sh makes it");
   return WebAssembly.compile(await answer.arrayBuffer());
 }
 
-let compiled;
-export async function open() {
-  compiled ??= compile();
+export async function open(compiled = compile()) {
   return new Device(await WebAssembly.instantiate(await compiled));
 }
 
 class NoMemory extends Error {}
+
+// What a call tells, or that memory ran out before it was made.
+function orNoMemory(call) {
+  try {
+    return call();
+  } catch (error) {
+    if (error instanceof NoMemory) return { status: MEMORY };
+    throw error;
+  }
+}
 
 class Device {
   constructor(instance) {
@@ -50,15 +59,19 @@ class Device {
     return at;
   }
 
+  // Whether the report behind a script is right. The call has no text.
+  audit(input) {
+    return orNoMemory(() => {
+      const from = this.put(input), told = this.take(TOLD);
+      this.module.kms_audit(from, BigInt(input.length), told);
+      return this.told(told);
+    });
+  }
+
   // Calls `kms_WORD` on a script. `room` is a guess: where the text is longer, the call is made again with what it needs, and
   // where there is not so much memory, with none, so that it tells what it needs. The text is a view that the next call spoils.
   call(word, script, options, room) {
-    try {
-      return this.callWithin(word, script, options, room);
-    } catch (error) {
-      if (error instanceof NoMemory) return { status: MEMORY };
-      throw error;
-    }
+    return orNoMemory(() => this.callWithin(word, script, options, room));
   }
 
   callWithin(word, script, options, room) {

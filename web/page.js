@@ -1,15 +1,20 @@
 // The page: it hands the script to the worker, and shows what comes back.
-import { FAULT, isWritten, meaningOf } from "./calls.js";
+import { areSame, decoded, encoded, joined } from "./bytes.js";
+import { DRAINED, FAULT, isWritten, meaningOf, WRONG } from "./calls.js";
 import { element, found, markChosen, scrollWithin } from "./elements.js";
+import { isTried } from "./estimate.js";
+import { takeFilesBy } from "./files.js";
 import { Gallery } from "./gallery.js";
 import { History } from "./history.js";
 import { linkFor, scriptIn } from "./link.js";
 import { Listing } from "./listing.js";
+import { compile } from "./module.js";
 import { Phases } from "./phases.js";
 import { readReport } from "./report.js";
-import { linesOf, readScript, wordFor } from "./script.js";
+import { sayingOf } from "./sayings.js";
+import { linesBeforeReport, linesOf, readScript, scriptOf, wordFor } from "./script.js";
 
-const MOST_BYTES = 1 << 26; // of an input, as the device's limits have it
+const AUDITED = new Set(["one", "replay"]); // the words whose report is one of their script
 
 const here = (name) => new URL(name, import.meta.url);
 const fileAt = async (name) => {
@@ -18,21 +23,24 @@ const fileAt = async (name) => {
   return answer;
 };
 
-// A script as the page reads it; its lines alone where the page cannot read it, since the device tells what is wrong with them.
-function readOrLines(text) {
+// A script as the page reads it, with all lines that are shown for a word; no commands where the page cannot read it, since the
+// device tells what is wrong with it.
+function readOrLines(text, word) {
   try {
-    return readScript(text);
+    const script = readScript(text);
+    return word === "audit" ? { ...script, lines: linesOf(text) } : script;
   } catch {
     return { commands: new Map(), lines: linesOf(text) };
   }
 }
 
-const encoded = (text) => new TextEncoder().encode(text);
-const decoded = (bytes) => new TextDecoder().decode(bytes);
-const areSame = (one, other) => one.length === other.length && one.every((byte, place) => byte === other[place]);
+const TRANSLATED = "Translated: the editor has the same by requests. Run executes them.";
+const NO_REPORT = "There is no report to be audited: behind the script, put a line “report” and a report.";
+const ESTIMATED = "At work. How far it is, is estimated by the time that a first part of the script took.";
 
 class Page {
   constructor(words) {
+    this.rules = words.rules;
     this.editor = found("script");
     this.kept = { bytes: null, shown: "" };
     this.phases = new Phases(found("phases"));
@@ -56,9 +64,15 @@ class Page {
     return this.kept.bytes !== null && this.kept.shown === this.editor.value;
   }
 
-  // The bytes of the script.
+  // The bytes that stand in the editor.
   get bytes() {
     return this.isKept ? this.kept.bytes : encoded(this.editor.value);
+  }
+
+  // Those of the script alone, without what stands behind it.
+  get script() {
+    const text = decoded(this.bytes), script = scriptOf(text);
+    return script === text ? this.bytes : encoded(script);
   }
 
   keep(bytes) {
@@ -71,24 +85,54 @@ class Page {
     this.stop();
     if (!this.isKept) this.keep(null);
     const { bytes } = this, word = found("word").value;
-    this.read = readOrLines(decoded(bytes));
+    this.read = readOrLines(decoded(bytes), word);
+    this.ran = this.script;
     this.isTranslated = false;
-    this.clear();
-    this.phases.start(word);
+    this.clear(word);
+    this.conclude = (told) => (word === "audit" ? this.judge(told) : this.tell(told, word));
+    this.begin(bytes, word);
+  }
+
+  // Audits the report that is shown, which stays.
+  audit() {
+    if (found("audit").hidden) return;
+    this.stop();
+    const report = found("report").textContent;
+    this.conclude = (told) => this.judgeOwn(told, linesOf(report));
+    this.begin(joined(this.ran, encoded(report)), "audit");
+  }
+
+  // Has a worker do what a word asks for.
+  begin(bytes, word) {
+    this.phases.start(word, isTried(bytes, word));
     this.say("At work.");
     found("stop").disabled = false;
     delete document.body.dataset.ended;
-    this.worker = new Worker(here("device.js"), { type: "module" });
-    this.worker.onmessage = ({ data }) => HEARD[data.kind](this, data);
-    this.worker.onerror = () => HEARD.trap(this, { why: "the worker could not be started" });
-    this.worker.postMessage({ bytes, word });
+    const worker = new Worker(here("device.js"), { type: "module" });
+    worker.onmessage = ({ data }) => HEARD[data.kind](this, data);
+    worker.onerror = () => HEARD.trap(this, { why: "the worker could not be started" });
+    this.worker = worker;
+    this.compile().then((module) => worker.postMessage({ bytes, word, module }), (error) => this.giveUp(worker, error.message));
   }
 
-  clear() {
+  // The module, which is compiled once for all runs.
+  compile() {
+    this.module ??= compile();
+    return this.module;
+  }
+
+  // Ends a run that could not begin.
+  giveUp(worker, why) {
+    this.module = null;
+    if (this.worker === worker) HEARD.trap(this, { why });
+  }
+
+  clear(word) {
+    found("replies-title").textContent = word === "audit" ? "Script and report" : "Replies";
     this.listing.show(this.read);
     this.history.clear();
     this.gallery.clear();
-    found("written").hidden = true;
+    for (const id of ["written", "audit"]) found(id).hidden = true;
     found("report").textContent = "";
   }
 
@@ -112,6 +156,39 @@ class Page {
     found("stop").disabled = true;
     this.say(words, isBad);
     document.body.dataset.ended = how;
+  }
+
+  // Ends a run with what its last call told.
+  tell(told, word) {
+    const words = this.isTranslated ? TRANSLATED : meaningOf(told, word);
+    this.end(`status ${told.status}`, words, !isWritten(told.status));
+    found("audit").hidden = !isWritten(told.status) || !AUDITED.has(word);
+    if (told.status === FAULT) this.showFault(told.line, words);
+  }
+
+  // Ends an audit of the report that stands behind the script.
+  judge(told) {
+    const { lines } = this.read, before = linesBeforeReport(lines);
+    const isMissing = told.status === FAULT && told.line > lines.length && !lines.includes("report");
+    const words = isMissing ? NO_REPORT : meaningOf(told, "audit");
+    this.end(`status ${told.status}`, words, told.status !== DRAINED);
+    if (told.status === FAULT) this.showFault(told.line, words);
+    if (told.status === WRONG) this.showFault(before + told.line, `${words} ${this.saying(lines[before + told.line - 1])}`);
+  }
+
+  // Ends an audit of the report that is shown.
+  judgeOwn(told, lines) {
+    const saying = told.status === WRONG ? ` ${this.saying(lines[told.line - 1])}` : "";
+    this.end(`status ${told.status}`, meaningOf(told, "audit") + saying, told.status !== DRAINED);
+  }
+
+  saying(line) {
+    return sayingOf(line, this.read, this.rules);
+  }
+
+  showFault(line, words) {
+    this.listing.showFault(line, words);
+    this.selectLine(line);
   }
 
   say(words, isBad = false) {
@@ -158,20 +235,17 @@ class Page {
 
 // What is done with each kind of message of the worker.
 const HEARD = {
-  phase: (page, { phase }) => page.phases.begin(phase),
+  phase: (page, phase) => {
+    page.phases.begin(phase);
+    if (phase.expected) page.say(ESTIMATED);
+  },
+  took: (page, { time }) => page.phases.tell(time),
   replies: (page, { text }) => page.listing.answer(readReport(text).replies),
   report: (page, { text }) => page.showReport(text),
   script: (page, { text }) => page.takeTranslation(text),
   frame: (page, frame) => page.phases.note(page.gallery.put(frame)),
   moreFrames: (page, { shown }) => page.gallery.tellMore(shown),
-  end: (page, { told }) => {
-    const words = page.isTranslated ? "Translated: the editor has the same by requests. Run executes them." : meaningOf(told);
-    page.end(`status ${told.status}`, words, !isWritten(told.status));
-    if (told.status === FAULT) {
-      page.listing.showFault(told.line, meaningOf(told));
-      page.selectLine(told.line);
-    }
-  },
+  end: (page, { told }) => page.conclude(told),
   trap: (page, { why }) => {
     const words = `The device gave up, so there is no answer: ${why}. It may need more stack or memory than it has here.`;
     page.end("trap", words, true);
@@ -181,8 +255,9 @@ const HEARD = {
 function runBy(page) {
   found("run").onclick = () => page.run();
   found("stop").onclick = () => page.stop();
+  found("audit").onclick = () => page.audit();
   document.addEventListener("keydown", (event) => {
-    if (event.key === "Enter" && (event.ctrlKey || event.metaKey)) page.run();
+    if (event.key === "Enter" && (event.ctrlKey || event.metaKey)) event.shiftKey ? page.audit() : page.run();
     else if (event.key === "Escape") page.stop();
     else return;
     event.preventDefault();
@@ -215,30 +290,6 @@ function chooseBy(page) {
       if (event.key === "Enter" && !event.ctrlKey && !event.metaKey && chosen(event)) page.choose(chosen(event), list);
     });
   }
-}
-
-async function takeFile(page, file) {
-  if (!file) return;
-  if (file.size > MOST_BYTES) return page.say(`${file.name} has more bytes than an input may have.`, true);
-  page.load(new Uint8Array(await file.arrayBuffer()));
-  found("example").value = "";
-  page.run();
-}
-
-function takeFilesBy(page) {
-  found("file").onchange = ({ target }) => takeFile(page, target.files[0]);
-  document.addEventListener("dragover", (event) => {
-    event.preventDefault();
-    document.body.classList.add("dropping");
-  });
-  document.addEventListener("dragleave", (event) => {
-    if (!event.relatedTarget) document.body.classList.remove("dropping");
-  });
-  document.addEventListener("drop", (event) => {
-    event.preventDefault();
-    document.body.classList.remove("dropping");
-    takeFile(page, event.dataTransfer.files[0]);
-  });
 }
 
 async function copyLink(page) {
@@ -290,6 +341,7 @@ async function start() {
   page.editor.addEventListener("input", () => {
     found("example").value = "";
     page.keep(null);
+    if (wordFor(page.editor.value) === "audit") found("word").value = "audit";
   });
   const names = await listExamples(page);
   const show = () => begin(page, names).catch((error) => page.say(error.message, true));

@@ -17,10 +17,30 @@ const READERS = {
   conn: (script, [crtcs]) => script.connectors.push(crtcList(crtcs)),
 };
 
-// A script's device and commands; a schedule behind it is left out. It takes what the device accepts. Clients, their commands and
+// What may stand behind a script.
+const BEHIND = { schedule: "replay", report: "audit" };
+const BEGINS_BEHIND = /^(schedule|report)$/m;
+const REPORT_LINE = /^[JRLEXDT] /;
+
+// A text without the schedule or the report that stands behind its script.
+export function scriptOf(text) {
+  const end = text.search(BEGINS_BEHIND);
+  return end < 0 ? text : text.slice(0, end);
+}
+
+// How many lines stand in front of a text's report, the line `report` among them; all, where there is none.
+export function linesBeforeReport(lines) {
+  const place = lines.indexOf("report");
+  return place < 0 ? lines.length : place + 1;
+}
+
+// Whether a text is a report: no script begins like one.
+export const isReport = (text) => REPORT_LINE.test(text);
+
+// A script's device and commands; what stands behind it is left out. It takes what the device accepts. Clients, their commands and
 // the lines are counted from 1.
 export function readScript(text) {
-  const lines = linesOf(text.split("\nschedule\n")[0]);
+  const lines = linesOf(scriptOf(text));
   const script = { profile: 1, crtcs: 0, planes: [], connectors: [], commands: new Map(), lines };
   let client = 0, number = 0;
   lines.forEach((line, place) => {
@@ -50,7 +70,8 @@ export function assignmentsOf(words) {
 
 // The word of the program that executes a text: its lines tell which.
 export function wordFor(text) {
-  if (/^schedule$/m.test(text)) return "replay";
+  const behind = text.match(BEGINS_BEHIND);
+  if (behind) return BEHIND[behind[0]];
   return linesOf(text).some((line) => OLDER_CALLS.has(line.split(" ")[0])) ? "legacy" : "one";
 }
 

@@ -10,10 +10,12 @@ import { dirname, join } from "node:path";
 import test from "node:test";
 import { fileURLToPath } from "node:url";
 
+import { Estimate, firstPart, isTried } from "./estimate.js";
 import { framesOf, roomForFrames } from "./frames.js";
 import { linkFor, scriptIn } from "./link.js";
 import { commitOf, readReport, refusalOf } from "./report.js";
-import { assignmentsOf, largestMode, readScript, wordFor } from "./script.js";
+import { sayingOf } from "./sayings.js";
+import { assignmentsOf, isReport, largestMode, linesBeforeReport, linesOf, readScript, scriptOf, wordFor } from "./script.js";
 import { explainSteps } from "./steps.js";
 import { pictureOf } from "./timeline.js";
 
@@ -111,6 +113,50 @@ test("a mode's size is found", () => {
 test("the word for a script is told by its lines", () => {
   const wordOf = (name) => wordFor(text(join(EXAMPLES, name)));
   assert.deepEqual(["meeting.kms", "meeting.replay", "older_calls.kms"].map(wordOf), ["one", "replay", "legacy"]);
+});
+
+test("a report behind a script is parted from it", () => {
+  const script = text(join(EXAMPLES, "meeting.kms")), report = text(join(EXAMPLES, "meeting.report")), both = `${script}report\n${report}`;
+  assert.deepEqual([wordFor(both), scriptOf(both), scriptOf(script)], ["audit", script, script]);
+  assert.equal(linesOf(both)[linesBeforeReport(linesOf(both))], "J 1 1");
+  assert.equal(linesBeforeReport(linesOf(script)), linesOf(script).length);
+  assert.deepEqual([isReport(report), isReport(script), isReport(both)], [true, false, false]);
+});
+
+test("each line of a report is said in words", () => {
+  const meeting = [join(EXAMPLES, "meeting.kms"), join(EXAMPLES, "meeting.report")];
+  for (const [scriptFile, reportFile] of [meeting, ...cases.scripts.map((it, place) => [it, cases.reports[place]])]) {
+    const script = readScript(text(scriptFile)), lines = linesOf(text(reportFile)).filter((line) => /^[A-Z] /.test(line));
+    for (const line of lines) assert.match(sayingOf(line, script, words.rules), /^It says that (?!.*(undefined|null|NaN)).*\.$/s, line);
+  }
+  const empty = readScript("kms 1\n");
+  assert.match(sayingOf("R 1 2 0 EINVAL 10", empty, words.rules), /command 2 \(which the script has not\).*10 FRAMEBUFFER_XOR_CRTC/);
+  for (const line of ["", "R", "R 1", "J 1 2 3", "D over", "P3", "constructor it", "D constructor", "__proto__ 1", "R\t1 1 0 done"]) {
+    assert.equal(sayingOf(line, empty, words.rules), "No report has such a line.", line);
+  }
+});
+
+test("a first part ends behind a line, and tells how long phases will take", () => {
+  const bytes = new TextEncoder().encode("one line\n".repeat(8000)), part = firstPart(bytes);
+  assert.equal(part.length, 9000);
+  assert.equal(firstPart(new TextEncoder().encode("x".repeat(90))).length, 0);
+  assert.deepEqual(["one", "suspend", "legacy", "replay", "audit"].filter((word) => isTried(bytes, word)), ["one", "suspend", "legacy"]);
+  assert.ok(!isTried(bytes.subarray(0, 30000), "one"));
+  const expected = new Estimate(bytes.length, part.length);
+  expected.times = new Map([["replies", 10], ["report", 30]]);
+  assert.equal(expected.of("replies"), 80);
+  expected.learn("replies", 50);
+  assert.equal(expected.of("report"), 150);
+  expected.learn("report", 100);
+  assert.equal(expected.of("frames"), null);
+});
+
+test("a phase of a first part is tried where the one before gave an answer", () => {
+  const expected = new Estimate(8, 1);
+  assert.ok(expected.tryPhase("replies", () => ({ status: 5 })) && expected.times.has("replies"));
+  assert.ok(expected.tryPhase("frames", () => null) && !expected.times.has("frames"));
+  assert.ok(!expected.tryPhase("report", () => ({ status: 4 })) && !expected.times.has("report"));
+  assert.equal(expected.of("report"), null);
 });
 
 test("assignments are parted", () => {

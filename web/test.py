@@ -31,43 +31,67 @@ import browser  # noqa: E402
 import small  # noqa: E402
 
 CASES = TOP.parent / "shared/cases"
-KINDS = ("rich", "meet", "replay", "legacy", "suspend", "hostile")
+KINDS = ("rich", "meet", "replay", "legacy", "suspend", "hostile", "audit")
 OPTIONS = {"--trace": 1, "--ppm": 2}
 WHY = {1: "bytes", 2: "cut", 3: "form", 4: "label", 5: "limit"}
-CONTROL = 2  # of a key
+CONTROL, SHIFT = 2, 8  # of a key
 MOST_BYTES, MOST_COMMANDS = 1 << 20, 4096  # of a script, and of a client
-CALLS = "kms_one kms_replay kms_verdicts kms_suspend kms_legacy".split()
+CALLS = "kms_one kms_replay kms_verdicts kms_suspend kms_legacy kms_audit".split()
 HEAP_CALLS = "rattle_alloc rattle_realloc rattle_dealloc memcmp memmove memset product left right signed_right".split()
 WIDE, NARROW = (1500, 1000), (420, 1800)  # of the page, in pixels
+FEW_TICKS = 0.5  # seconds, in which the page might guess nothing
 STACKS = (1 << 10, 1 << 16)  # bytes, all too few
 PAGES = (0, 256)  # by which a memory may grow: with fewer than 256 there is no heap, and with so many there is none for a large frame
 HEAP_MEMORY, ECHO_MEMORY = 1 << 28, 1 << 30  # bytes at most
 ENDED = "document.body?.dataset.ended !== undefined"
+IS_BAD = "document.getElementById('status')?.classList.contains('bad')"
+WIDE_MEMORY = "WebAssembly.validate(Uint8Array.of(0, 97, 115, 109, 1, 0, 0, 0, 5, 3, 1, 4, 0))"  # as module.js asks
 
 
 CALL = """(async () => {
-    const { open } = await import('./module.js'), script = Uint8Array.from(atob('%s'), it => it.charCodeAt(0));
-    const { text, ...told } = (await open()).call('%s', script, %d, 65536);
+    const { compile, open } = await import('./module.js'), script = Uint8Array.from(atob('%s'), it => it.charCodeAt(0));
+    window.compiled ??= compile();
+    const device = await open(compiled), word = '%s';
+    const { text, ...told } = word === 'audit' ? device.audit(script) : device.call(word, script, %d, 65536);
     return { ...told, text: text ? new TextDecoder().decode(text) : '' };
 })()"""
 
 
 DROP = """{
     delete document.body.dataset.ended;
-    const data = new DataTransfer(), bytes = Uint8Array.from(atob('%s'), it => it.charCodeAt(0));
-    data.items.add(new File([bytes], 'own.kms'));
+    const data = new DataTransfer(), bytes = (text) => Uint8Array.from(atob(text), it => it.charCodeAt(0));
+    for (const text of %s) data.items.add(new File([bytes(text)], 'own.kms'));
     document.dispatchEvent(new DragEvent('drop', { dataTransfer: data, cancelable: true }));
 }"""
 
 
-class Quiet(http.server.SimpleHTTPRequestHandler):
+# Keeps what the phases tell of themselves while they go on.
+WATCH = """{
+    window.notes = [];
+    window.watch?.disconnect();
+    window.watch = new MutationObserver(() => {
+        const now = document.querySelector('#phases .now');
+        if (now) notes.push([now.dataset.phase, now.querySelector('.note').textContent]);
+    });
+    watch.observe(phases, { subtree: true, childList: true });
+}"""
+NOTE = re.compile(r"about (\d{1,2}) %|longer than estimated|\d+ of \d+|")  # (of two digits: 100 % is told by no guess)
+
+
+class Files(http.server.SimpleHTTPRequestHandler):
+    """A folder's files, without a log. The browser may keep none: a file that was written twice in a second has the same date."""
+
+    def end_headers(self):
+        self.send_header("Cache-Control", "no-store")
+        super().end_headers()
+
     def log_message(self, *_):
         pass
 
 
 def serve(folder):
     """Serves a folder; its address."""
-    server = http.server.ThreadingHTTPServer(("127.0.0.1", 0), functools.partial(Quiet, directory=str(folder)))
+    server = http.server.ThreadingHTTPServer(("127.0.0.1", 0), functools.partial(Files, directory=str(folder)))
     threading.Thread(target=server.serve_forever, daemon=True).start()
     return f"http://127.0.0.1:{server.server_port}/"
 
@@ -122,7 +146,7 @@ def wide_digest():
 def error_of(told):
     """What the program writes to standard error where a call told this."""
     fault, step = f"line {told['line']}: {WHY.get(told['why'])}", f"event {told['place']} is not legal"
-    said = {4: fault, 7: step, 8: "open", 10: f"closed {told['object']}"}
+    said = {4: fault, 7: step, 8: "open", 9: f"audit: line {told['line']}", 10: f"closed {told['object']}"}
     return f"kms: {said[told['status']]}\n" if told["status"] in said else None
 
 
@@ -164,14 +188,20 @@ class Tests:
         self.page, self.address, self.folder, self.is_stand_in = page, address, folder, is_stand_in
 
     def open(self, fragment=""):
+        """Opens the page, which runs a script at once. (A page that says that it has none to run would not end.)"""
         self.page.go("about:blank")
         self.page.go(self.address + fragment)
-        self.page.wait(ENDED, 60)
+        self.page.wait(f"{ENDED} || {IS_BAD}")
+        assert self.page.value(ENDED), self.text("status")
 
-    def run(self, script, word="one", seconds=60):
+    def run(self, script, word="one"):
         """Runs a script; how it ended."""
         self.begin(script, word)
-        self.page.wait(ENDED, seconds)
+        return self.ended()
+
+    def ended(self):
+        """How the run ends."""
+        self.page.wait(ENDED)
         return self.page.value("document.body.dataset.ended")
 
     def begin(self, script, word="one"):
@@ -189,7 +219,7 @@ class Tests:
                 continue
             self.page.value("{ script.value = ''; delete document.body.dataset.ended; }")
             self.page.value(f"{{ example.value = {json.dumps(name)}; example.dispatchEvent(new Event('change')); }}")
-            self.page.wait(f"{ENDED} && script.value.length > 0", 60)
+            self.page.wait(f"{ENDED} && script.value.length > 0")
             wanted, shown = report.read_text(), self.shown_report(name)
             if "\nT " not in wanted:
                 shown = "".join(line for line in shown.splitlines(keepends=True) if not line.startswith("T "))
@@ -212,6 +242,8 @@ class Tests:
         chosen = [(it, "one", 1) for it in cases()] if self.is_stand_in else list(all_cases())
         for file, word, options in chosen:
             told = self.call(file.read_bytes(), word, options)
+            if word == "audit" and told["status"] == 0:
+                told["text"] = "audit yes\n"  # (the call has no text)
             assert told["text"] == file.with_suffix(".out").read_text(), file
             if not self.is_stand_in:  # (which knows no status but that of a script that drains)
                 error, status = error_of(told), int(file.with_suffix(".status").read_text())
@@ -271,14 +303,19 @@ class Tests:
         self.page.wait(f"{line} === {began}")
         self.page.value("{ script.focus(); delete document.body.dataset.ended; }")
         self.page.key("Enter", "Enter", 13, CONTROL)
-        self.page.wait(ENDED)
+        self.ended()
+
+    def link(self):
+        """The fragment with the link that the button makes. The link comes later than the click, so the one before is taken away."""
+        self.page.value("{ history.replaceState(null, '', location.pathname); link.click(); }")
+        self.page.wait("location.hash.startsWith('#script=')")
+        return self.page.value("location.hash")
 
     def test_link(self):
         """a link holds its script"""
         script = (TOP / "examples/first_light.kms").read_text()
-        self.page.value(f"{{ script.value = {json.dumps(script)}; link.click(); }}")
-        self.page.wait("location.hash.startsWith('#script=')")
-        self.open(self.page.value("location.hash"))
+        self.page.value(f"script.value = {json.dumps(script)}")
+        self.open(self.link())
         assert self.page.value("script.value") == script
         assert "ba7816bf" in self.text("report")
 
@@ -286,7 +323,7 @@ class Tests:
         """a broken link is told"""
         self.page.go("about:blank")
         self.page.go(self.address + "#script=AAAA")
-        self.page.wait("document.getElementById('status')?.classList.contains('bad')")
+        self.page.wait(IS_BAD)
         assert "link" in self.text("status")
 
     def test_fault(self):
@@ -306,11 +343,10 @@ class Tests:
             lines = self.page.value("[...document.querySelectorAll('#replies li code')].map(it => it.textContent)")
             assert lines == ["kms 1", line, "conn 0", "client"], lines
 
-    def drop(self, script):
-        """Drops a file with these bytes; how its run ended."""
-        self.page.value(DROP % base64.b64encode(script).decode())
-        self.page.wait(ENDED)
-        return self.page.value("document.body.dataset.ended")
+    def drop(self, *files):
+        """Drops files with these bytes; how their run ended."""
+        self.page.value(DROP % json.dumps([base64.b64encode(it).decode() for it in files]))
+        return self.ended()
 
     def test_file(self):
         """a file that is dropped is run"""
@@ -326,13 +362,75 @@ class Tests:
             assert self.drop(bytes_) == "status 4" and not self.page.value("kept.hidden"), bytes_[:10]
             said = self.text("status")
             assert self.is_stand_in or said.startswith("Line 1: a byte"), (bytes_[:10], said)
-            self.page.value("link.click()")
-            self.page.wait("location.hash.startsWith('#script=')")
-            self.open(self.page.value("location.hash"))
+            self.open(self.link())
             assert self.page.value("document.body.dataset.ended") == "status 4" and not self.page.value("kept.hidden"), bytes_[:10]
             self.page.value("{ script.value += '\\n'; script.dispatchEvent(new Event('input')); }")
             assert self.page.value("kept.hidden"), bytes_[:10]
             assert self.run(script.decode()) == "status 0" and "ba7816bf" in self.text("report")
+
+    def test_own_audit(self):
+        """the report of a run is audited by a click and by a key, and stays as it is"""
+        script, report = (TOP / f"examples/meeting.{it}" for it in ("kms", "report"))
+        assert self.run(script.read_text()) == "status 0" and not self.page.value("audit.hidden")
+        for ask in (lambda: self.page.value("audit.click()"), lambda: self.page.key("Enter", "Enter", 13, CONTROL | SHIFT)):
+            self.page.value("delete document.body.dataset.ended")
+            ask()
+            assert self.ended() == "status 0" and self.text("status").startswith("Audit: yes"), self.text("status")
+            assert self.text("report") == report.read_text() and self.page.value("!shown.hidden && script.value") == script.read_text()
+        cut = "document.getElementById('report').textContent = 'J 1 1\\n'"
+        self.page.value(f"{{ {cut}; delete document.body.dataset.ended; audit.click(); }}")
+        assert self.ended() == "status 9" and self.text("status").startswith("Line 2 of the report"), self.text("status")
+        assert self.run((TOP / "examples/sleep.kms").read_text(), "suspend") == "status 0" and self.page.value("audit.hidden")
+
+    def test_audit(self):
+        """a report that is dropped or pasted is audited behind its script, and its first wrong line is told in words"""
+        script, report = ((TOP / f"examples/first_light.{it}").read_bytes() for it in ("kms", "report"))
+        both = (script + b"report\n" + report).decode()
+        for files in ([script, report], [report], [both.encode()], [report, script]):
+            assert self.drop(*files) == "status 0" and self.text("status").startswith("Audit: yes"), self.text("status")
+            assert self.page.value("script.value") == both and self.page.value("word.value") == "audit"
+        wrong = {
+            report.replace(b"commit 0", b"EINVAL 10"): (8, "client 1's command 4 (atomic 0x400, line 9 of the script)", "10 FRAMEBUFFER"),
+            report.replace(b"ba7816bf", b"ba7816be"): (9, "CRTC 0 latched commit 0, whose frame has the SHA-256 ba7816be"),
+            report.removesuffix(b"D drained\n"): (10, "ends too early"),
+            report.replace(b"D drained", b"constructor it"): (10, "No report has such a line"),
+        }  # fmt: skip
+        for changed, (line, *words) in wrong.items():
+            assert self.drop(changed) == "status 9", changed
+            assert self.text("status") == f"Line {line} of the report is the first that is not right.", self.text("status")
+            item = f"#replies [data-line='{10 + line}'], #replies ol:last-child .refused"
+            shown = self.page.value(f"document.querySelector({json.dumps(item)}).textContent")
+            assert all(it in shown for it in words), (shown, words)
+        self.page.value(f"{{ script.value = {json.dumps(both)}; word.value = 'one'; script.dispatchEvent(new Event('input')); }}")
+        assert self.run(both, self.page.value("word.value")) == "status 0" and self.text("status").startswith("Audit: yes")
+        assert self.run(script.decode(), "audit") == "status 4" and "no report" in self.text("status"), self.text("status")
+
+    def test_estimate(self):
+        """how far the phases of a long script are is estimated, unless its first part has a fault; never are they done too early"""
+        guessed = self.guesses(large(self.is_stand_in), "status 0")
+        took = self.page.value("document.querySelector('[data-phase=\"replies\"] .time').textContent")
+        # (The report may be there before the page has shown the replies.)
+        assert float(took.removesuffix(" s")) < FEW_TICKS or "replies" in guessed, guessed
+        for phase, shares in guessed.items():
+            assert shares == sorted(shares), (phase, shares)
+        print("        (" + ", ".join(f"{phase}: {shares[0]} to {shares[-1]} %" for phase, shares in guessed.items()) + ")")
+        part = "document.querySelector('[data-phase=\"part\"]') !== null"
+        assert self.guesses("kms 1\nbad\n" * 8000, "status 4") == {} and self.page.value(part)
+        assert self.guesses((TOP / "examples/two_screens.kms").read_text(), "status 0") == {} and not self.page.value(part)
+
+    def guesses(self, script, wanted):
+        """By phase, the per cent that were guessed while the script was run."""
+        found = {}
+        self.page.value(WATCH)
+        ended = self.run(script)
+        assert ended == wanted, ended
+        for phase, note in self.page.value("notes"):
+            said = NOTE.fullmatch(note)
+            assert said, note
+            if said[1]:
+                found.setdefault(phase, []).append(int(said[1]))
+        assert "about" not in self.text("phases") and "estimated" not in self.text("phases"), self.text("phases")
+        return found
 
     def test_legacy(self):
         """older calls are translated into the editor"""
@@ -345,7 +443,7 @@ class Tests:
         """a script of 1 MiB, with as many replies as it has commands"""
         script = large(self.is_stand_in)
         began = time.monotonic()
-        assert self.run(script, seconds=120) == "status 0"
+        assert self.run(script) == "status 0"
         replies = self.page.value("document.getElementById('report').textContent.match(/^R /gm).length")
         assert replies == len(re.findall("^(?:blob|destroy) ", script, re.M)), replies
         self.page.value("{ step.value = 60000; step.dispatchEvent(new Event('input')); }")
@@ -356,7 +454,7 @@ class Tests:
     def test_large_frame(self):
         """a frame of 4096x4096"""
         began = time.monotonic()
-        assert self.run(wide(self.is_stand_in), seconds=120) == "status 0"
+        assert self.run(wide(self.is_stand_in)) == "status 0"
         assert self.page.value("(() => { const it = document.querySelector('canvas'); return [it.width, it.height]; })()") == [4096, 4096]
         pixel = """(() => {
             const it = new OffscreenCanvas(1, 1).getContext('2d');
@@ -372,7 +470,7 @@ class Tests:
         self.begin(large(self.is_stand_in))
         self.page.wait("document.querySelector('#phases .now') !== null")
         self.page.key("Escape", "Escape", 27)
-        self.page.wait("document.body.dataset.ended === 'stopped'", 5)
+        self.page.wait("document.body.dataset.ended === 'stopped'")
         assert self.run((TOP / "examples/first_light.kms").read_text()) == "status 0" and "ba7816bf" in self.text("report")
 
     def test_heap(self):
@@ -404,6 +502,8 @@ class Tests:
         assert told["illegal"] == none | {"status": 7, "place": 1 << 33}, told["illegal"]
         assert told["closed"] == none | {"status": 10, "object": 203}, told["closed"]
         assert (told["options"], told["memory"], told["guess"]) == (3, 6, "kms"), told
+        wanted = [none, none, none | {"status": 9, "line": 5}, none | {"status": 6}]
+        assert [{"text": "", **it} for it in told["audits"]] == wanted, told["audits"]
         assert told["deep"] in ("RuntimeError", "RangeError") and told["trap"] == "RuntimeError", told
 
     def go_wrong(self):
@@ -416,7 +516,7 @@ class Tests:
         self.begin("s\n")
         self.page.wait("document.querySelector('#phases .now') !== null")
         self.page.key("Escape", "Escape", 27)
-        self.page.wait("document.body.dataset.ended === 'stopped'", 5)
+        self.page.wait("document.body.dataset.ended === 'stopped'")
         assert self.run("kms 1\n") == "status 0" and self.text("report") == "kms 1\n", self.text("report")
 
     def test_small(self):
@@ -439,7 +539,7 @@ class Tests:
         self.open()
         short, ended = TOP / "examples/first_light.kms", []
         for script, right in ((short.read_text(), short.with_suffix(".report").read_text()), (wide(False), wide_digest())):
-            how, shown = self.run(script, seconds=120), self.text("report")
+            how, shown = self.run(script), self.text("report")
             assert how in ("trap", "status 6", "status 0") and (right in shown or (how != "status 0" and shown == "")), (how, shown)
             assert how == "status 0" or "no answer" in self.text("status"), self.text("status")
             ended.append(how)
@@ -492,6 +592,9 @@ def main():
     with tempfile.TemporaryDirectory() as folder, browser.Browser(program) as page:
         if asked.page is None:
             make_stand_in(pathlib.Path(folder))
+        elif not page.value(WIDE_MEMORY):
+            print("web/test.py: skipped, this Chromium has no WebAssembly memory of 64-bit addresses")
+            return 0
         tests = Tests(page, serve(asked.page or folder), pathlib.Path(folder), asked.page is None)
         page.size(*WIDE)
         tests.open()

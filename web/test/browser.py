@@ -8,6 +8,7 @@ import tempfile
 
 NAMES = ("chromium", "chromium-browser", "google-chrome", "chrome")
 READ, WRITE = 3, 4  # where the browser looks for its pipes
+PATIENCE = 300  # seconds, for what ends by itself: the processors may be at other work
 
 
 def found():
@@ -22,8 +23,8 @@ class Browser:
         commands, self.commands = os.pipe()
         self.answers, answers = os.pipe()
         self.folder = tempfile.TemporaryDirectory(ignore_cleanup_errors=True)
-        words = [program, "--headless", "--no-sandbox", "--disable-gpu", "--hide-scrollbars", "--remote-debugging-pipe"]
-        words += ["--no-first-run", f"--user-data-dir={self.folder.name}", "about:blank"]
+        words = [program, "--headless", "--no-sandbox", "--disable-gpu", "--disable-dev-shm-usage", "--hide-scrollbars"]
+        words += ["--remote-debugging-pipe", "--no-first-run", f"--user-data-dir={self.folder.name}", "about:blank"]
         script = f'exec "$@" {READ}<&{commands} {WRITE}>&{answers}'
         self.process = subprocess.Popen(
             ["bash", "-c", script, "bash", *words], pass_fds=(commands, answers), stdout=subprocess.DEVNULL, stderr=subprocess.DEVNULL
@@ -31,8 +32,8 @@ class Browser:
         os.close(commands)
         os.close(answers)
         self.number, self.session, self.unread, self.said = 0, None, b"", []
-        target = next(it for it in self.call("Target.getTargets")["targetInfos"] if it["type"] == "page")
-        self.session = self.call("Target.attachToTarget", targetId=target["targetId"], flatten=True)["sessionId"]
+        target = self.call("Target.createTarget", url="about:blank")["targetId"]
+        self.session = self.call("Target.attachToTarget", targetId=target, flatten=True)["sessionId"]
         for domain in ("Page", "Runtime", "Log"):
             self.call(f"{domain}.enable")
 
@@ -85,7 +86,7 @@ class Browser:
             raise RuntimeError(answer["exceptionDetails"].get("exception", {}).get("description", expression))
         return answer["result"].get("value")
 
-    def wait(self, condition, seconds=30):
+    def wait(self, condition, seconds=PATIENCE):
         """Waits until an expression holds in the page."""
         poll = f"""new Promise(done => {{
             const end = Date.now() + {int(seconds * 1000)};

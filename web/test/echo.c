@@ -9,7 +9,7 @@ struct Told {
     Size place, length;
 };
 
-enum { DRAINED = 0, ROOM = 2, OPTIONS = 3, FAULT = 4, MEMORY = 6, ILLEGAL = 7, CLOSED = 10 };
+enum { DRAINED = 0, ROOM = 2, OPTIONS = 3, FAULT = 4, MEMORY = 6, ILLEGAL = 7, WRONG = 9, CLOSED = 10 };
 
 void *page_take(Size size);
 
@@ -29,6 +29,7 @@ static void ask(Byte letter, struct Told *told) {
     if (letter == 't') __builtin_trap();
     if (letter == 'f') *told = (struct Told){.status = FAULT, .line = 2, .why = 3};
     if (letter == 'i') *told = (struct Told){.status = ILLEGAL, .place = 1ULL << 33};
+    if (letter == 'w') *told = (struct Told){.status = WRONG, .line = 5};
     if (letter == 'c') *told = (struct Told){.status = CLOSED, .object = 203};
     if (letter == 'm') {
         for (Size size = 1 << 26; page_take(size);) depth++;
@@ -63,4 +64,9 @@ void kms_suspend(const Byte *script, Size size, Byte *out, Size room, struct Tol
 
 void kms_legacy(const Byte *script, Size size, Byte *out, Size room, struct Told *told) {
     echo(script, size, out, room, told);
+}
+
+void kms_audit(const Byte *input, Size size, struct Told *told) {
+    *told = (struct Told){.status = DRAINED};
+    if (size > 0) ask(input[0], told);
 }

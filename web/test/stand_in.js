@@ -1,8 +1,9 @@
 // In place of module.js, for trying the page without the module: it answers the scripts of examples/ by their reports, which
 // web/test.py puts into answers.json. A script that is none of them is answered by what its first line asks for.
-import { DRAINED, FAULT, PPM } from "./calls.js";
+import { DRAINED, FAULT, PPM, WRONG } from "./calls.js";
 
 const SIDE = 4096; // pixels of the largest frame
+const MILLISECONDS_PER_CHARACTER = 1 / 1024; // a second for 1 MiB
 
 const encoder = new TextEncoder();
 const textOf = (lines) => encoder.encode(lines.join("\n") + "\n");
@@ -15,8 +16,10 @@ function longReport(script) {
   return { replies, steps: linesFor(count, () => "T read 1") };
 }
 
+// A long script takes its time, in proportion to its length, on whatever machine.
 function large(word, script, options) {
-  const { replies, steps } = longReport(script);
+  const until = performance.now() + script.length * MILLISECONDS_PER_CHARACTER, { replies, steps } = longReport(script);
+  while (performance.now() < until);
   if (word === "verdicts") return textOf(replies);
   return textOf([...replies, "D drained", ...(options === PPM ? [] : steps)]);
 }
@@ -43,13 +46,26 @@ function joined(parts) {
 
 const MADE = { large, wide };
 
+// Compares a report with the one that is kept.
+function audited(answers, input) {
+  const [script, report] = input.split(/^report\n/m), answer = answers[script];
+  if (!answer) return { status: FAULT, line: 2, why: 3 };
+  if (report === undefined) return { status: FAULT, line: input.split("\n").length, why: 3 };
+  const lines = report.split("\n"), wanted = answer.report.split("\n"), wrong = wanted.findIndex((line, place) => line !== lines[place]);
+  return wrong < 0 ? { status: DRAINED } : { status: WRONG, line: wrong + 1 };
+}
+
+export const compile = async () => null;
+
 export async function open() {
   const answers = await (await fetch("answers.json")).json();
   const written = (text) => ({ status: DRAINED, length: text.length, text });
   return {
+    audit: (input) => audited(answers, new TextDecoder().decode(input)),
     call(word, script, options) {
-      const text = new TextDecoder("utf-8", { ignoreBOM: true }).decode(script), answer = answers[text], made = MADE[text.split("\n")[0]];
-      if (made) return written(made(word, text, options));
+      const text = new TextDecoder("utf-8", { ignoreBOM: true }).decode(script), answer = answers[text];
+      const made = MADE[text.split("\n")[0]]?.(word, text, options);
+      if (made) return written(made);
       if (!answer) return { status: FAULT, line: 2, why: 3 };
       const wanted = word === "verdicts" ? answer.verdicts : options === PPM ? answer.frames : answer[word] ?? answer.report;
       return written(encoder.encode(wanted));

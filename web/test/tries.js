@@ -31,6 +31,7 @@ export async function answers() {
     closed: call(device, "one", "c", 0, 16),
     guess: call(device, "one", "kms", 0, 2 ** 41).text,
     memory: call(device, "one", "m", 0, 16).status,
+    audits: ["kms", "", "w", "m"].map((text) => device.audit(bytes(text))),
     deep: await trapOf("d"),
     trap: await trapOf("t"),
     after: (await trapOf("kms")).text,

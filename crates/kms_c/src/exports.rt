@@ -14,7 +14,7 @@ use crate::told::Told;
 use crate::verdicts::verdict_answer;
 use kms_report::{OneThread, Options};
 use kms_run::{
-    Action, Execution, Status, answer_audit, answer_to, slept_answer_to, translate_text,
+    Action, Execution, Status, answer_audit, answer_legacy_to, answer_suspend_to, answer_to,
 };
 use std::alloc::Global;
 
@@ -51,9 +51,9 @@ fn execute(alloc: Global, action: Action, script: &[u8], options: u32, out: &mut
 }
 
 /// Executes a script by one thread, as `kms one` does, and puts its report at the front of the caller's memory. Of the options
-/// 1 adds the steps and 2 the frames as pixmaps; 3 adds both, and any other number but 0 ends with status 3 and nothing else. Where the memory
-/// has too little room, the status is 2, nothing is put there, and `length` tells how much the report needs: a second call with
-/// so much gives the same report.
+/// 1 adds the steps and 2 the frames as pixmaps; 3 adds both, and any other number but 0 ends with status 3 and nothing else.
+/// Where the memory has too little room, the status is 2, nothing is put there, and `length` tells how much the report needs: a
+/// second call with so much gives the same report.
 #[unsafe(no_mangle)]
 pub extern "C" fn kms_one(
     alloc: Global,
@@ -104,7 +104,7 @@ pub extern "C" fn kms_verdicts(alloc: Global, script: &[u8], out: &mut [u8], tol
 pub extern "C" fn kms_suspend(alloc: Global, script: &[u8], out: &mut [u8], told: &mut Told)
     ensures { IsSlept (SleepAnswers script.now) out.old out.new told.new }
 {
-    *told = put_slept(out, slept_answer_to(&OneThread, alloc, script));
+    *told = put_slept(out, answer_suspend_to(&OneThread, alloc, script));
 }
 
 /// Translates a script with older calls into one with requests alone, as `kms legacy` does.
@@ -112,7 +112,7 @@ pub extern "C" fn kms_suspend(alloc: Global, script: &[u8], out: &mut [u8], told
 pub extern "C" fn kms_legacy(alloc: Global, script: &[u8], out: &mut [u8], told: &mut Told)
     ensures { IsTranslated (TellsTranslation script.now) out.old out.new told.new }
 {
-    *told = put_translation(out, translate_text(alloc, script));
+    *told = put_translation(out, answer_legacy_to(alloc, script));
 }
 
 /// Says whether a report is right, as `kms audit` does: the input is a script, a line `report` and a report without pixmaps.
