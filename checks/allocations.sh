@@ -2,11 +2,11 @@
 # Refuses each allocation of three runs of the machine in turn: the run in which a client lights a CRTC, the one in which an
 # event is read and a framebuffer freed, and one of two clients that test the same, with a refused request. A step that finds no
 # memory leaves the machine as it was, as a second machine beside it tells, and is done at the second try; both then answer each
-# question in the same way, and their reports have the same bytes. And it refuses each allocation of a call of the program, from
-# the bytes of the script to its report: then nothing is written, and a second call writes the report. The tests
-# (allocations/memory.rt.txt) ask for that. The toolchain refuses the allocation of one number in each test (`rt try --test
-# --fail-alloc`, which proves nothing). So that one build does, there is a test for each allocation of a run, which first takes
-# memory so often that the number falls on it. For each run it says how often it saw what.
+# question in the same way, and their reports have the same bytes. And it refuses each allocation of a call of the program by
+# `one`, `suspend` and `audit`, from the bytes of the input to what is written: then nothing is written, and a second call
+# writes all. The tests (allocations/memory.rt.txt) ask for that. The toolchain refuses the allocation of one number in each
+# test (`rt try --test --fail-alloc`, which proves nothing). So that one build does, there is a test for each allocation of a
+# run, which first takes memory so often that the number falls on it. For each run it says how often it saw what.
 #     checks/allocations.sh [MOST]
 # has as many tests of each run, which must be more than the run has allocations.
 set -eu
@@ -66,9 +66,13 @@ judge() {
     write_tests reads
     write_tests crosses
     write_tests answers
+    write_tests suspends
+    write_tests audits
 } >"$tests/src/memory.rt"
 (cd "$tests" && rt try --test --fail-alloc "$most") >"$work/said" 2>&1 || true
 judge lights
 judge reads
 judge crosses
 judge answers
+judge suspends
+judge audits

@@ -15,4 +15,6 @@ sed -i 's/^kms_core_tests: .*/& kms_request kms_check kms_state/' "$work/crates.
 cp "$here/decisions/decisions.rt.txt" "$work/crates/kms_core_tests/src/decisions.rt"
 printf '#[cfg(test)]\nmod decisions;\n' >>"$work/crates/kms_core_tests/src/lib.rt"
 cd "$work/crates/kms_core_tests"
-rt try --test 2>&1 | grep "decisions::"
+rt try --test >"$work/said" 2>&1 || :
+grep "decisions::" "$work/said" || { cat "$work/said" >&2; exit 1; }
+! grep -q "decisions::.*FAILED" "$work/said"

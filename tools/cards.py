@@ -4,6 +4,7 @@ import dataclasses
 import reports
 
 LARGEST = 1280  # the widest mode that is taken, where the card has a narrower one
+SMALL = ((64, 48), (48, 64), (32, 32))  # modes that no card tells; drivers without hardware take them all the same
 
 
 @dataclasses.dataclass
@@ -15,6 +16,7 @@ class Card:
     cursor: int
     has_fences: bool
     has_async: bool
+    has_closefb: bool
     modes: list
     properties: dict  # by object: names of mutable properties, each with its kind and values
 
@@ -32,13 +34,20 @@ def read_card(text):
     cursor = int(of("cursor")[0][0]) or 64
     modes = [" ".join(mode[1:]) for mode in of("mode")]
     says = lambda word: [word, "yes"] in lines
-    return Card(reports.read_script("\n".join(head)), head, least, cursor, says("fences"), says("async"), modes, found)
+    has_closefb = ["closefb", "no"] not in lines
+    return Card(reports.read_script("\n".join(head)), head, least, cursor, says("fences"), says("async"), has_closefb, modes, found)
 
 
 def plain_mode(width, height):
     """The words of a mode of this size, for a card that tells none."""
     across, down = f"{width} {width + 2} {width + 6} {width + 16}", f"{height} {height + 2} {height + 4} {height + 8}"
     return f"{(width + 16) * (height + 8) * 60 // 1000 or 1} {across} 0 {down} 0 60 0 0 {width}x{height}"
+
+
+def made_small(card):
+    """The same card with small modes and cursors, whose frames are soon drawn and compared."""
+    modes = [plain_mode(*map(max, card.least, size)) for size in SMALL]
+    return dataclasses.replace(card, modes=modes, cursor=min(card.cursor, 64))
 
 
 def size_of(mode):

@@ -24,6 +24,7 @@ class Thing:
     height: int = 0
     format: str = ""
     content: bytes = b""  # of a blob
+    pattern: tuple = ()  # the words of what a buffer is filled with
 
 
 @dataclasses.dataclass(frozen=True)
@@ -118,7 +119,7 @@ class Device:
                 if it.word.startswith("+"):
                     self.add(Thing(it.word[1:], "out-fence", command.client))
         elif name == "buffer":
-            self.add(Thing(words[0], "buffer", command.client, True, int(words[1]), int(words[2]), words[3]))
+            self.add(Thing(words[0], "buffer", command.client, True, int(words[1]), int(words[2]), words[3], pattern=tuple(words[4:])))
         elif name == "addfb":
             buffer = self.things[words[1]]
             self.add(dataclasses.replace(buffer, label=words[0], kind="framebuffer", owner=command.client))

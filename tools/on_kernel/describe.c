@@ -1,4 +1,5 @@
 /* What a card has: `on_kernel CARD --describe`. README.md, beside this file, says what the lines are. */
+#include <errno.h>
 #include <inttypes.h>
 #include <stdio.h>
 #include <unistd.h>
@@ -86,6 +87,12 @@ static uint64_t capability(int file, uint64_t which) {
     return drmGetCap(file, which, &value) ? 0 : value;
 }
 
+/* Whether the kernel has CLOSEFB: it then looks for the framebuffer, which is not there. */
+static bool has_closefb(int file) {
+    struct drm_mode_closefb close = {.fb_id = UINT32_MAX};
+    return !drmIoctl(file, DRM_IOCTL_MODE_CLOSEFB, &close) || errno == ENOENT;
+}
+
 void describe(int file) {
     drmVersion *driver = drmGetVersion(file);
     drmModeRes *card = drmModeGetResources(file);
@@ -96,6 +103,7 @@ void describe(int file) {
     printf("cursor %" PRIu64 " %" PRIu64 "\n", capability(file, DRM_CAP_CURSOR_WIDTH), capability(file, DRM_CAP_CURSOR_HEIGHT));
     printf("fences %s\n", access(SW_SYNC, R_OK | W_OK) ? "no" : "yes");
     printf("async %s\n", capability(file, DRM_CAP_ATOMIC_ASYNC_PAGE_FLIP) ? "yes" : "no");
+    printf("closefb %s\n", has_closefb(file) ? "yes" : "no");
     struct topology t = read_topology(file);
     describe_objects(file, &t);
     drmModeFreeResources(card);

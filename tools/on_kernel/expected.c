@@ -41,6 +41,18 @@ static void add_latch(struct expected *e, const char *line) {
     e->latches[e->latch_count++] = l;
 }
 
+/* The next number, without scanf's costs: a report has many. */
+static bool read_channel(FILE *from, uint8_t *channel) {
+    int next = getc_unlocked(from), value = 0;
+    while (next == ' ' || next == '\n')
+        next = getc_unlocked(from);
+    bool is_number = next >= '0' && next <= '9';
+    for (; next >= '0' && next <= '9'; next = getc_unlocked(from))
+        value = 10 * value + next - '0';
+    *channel = value;
+    return is_number && value < 256;
+}
+
 /* The frame of the latch before, whose first line, `P3`, was read. */
 static void add_frame(struct expected *e, FILE *from) {
     struct frame f;
@@ -49,7 +61,7 @@ static void add_frame(struct expected *e, FILE *from) {
     size_t size = 3 * (size_t)f.width * f.height;
     f.bytes = malloc(size);
     for (size_t i = 0; i < size; i++)
-        if (fscanf(from, "%hhu", &f.bytes[i]) != 1)
+        if (!read_channel(from, &f.bytes[i]))
             give_up("a frame that is too short", "");
     e->latches[e->latch_count - 1].frame = f;
 }
@@ -80,29 +92,38 @@ const char *expected_reply(const struct expected *e, int client, unsigned comman
     return "";
 }
 
-static const struct expected_latch *find_latch(const struct expected *e, unsigned crtc, unsigned commit) {
+/* The latch of the commit that a command made. It is found by the command, since a kernel may count its commits otherwise. */
+static const struct expected_latch *find_latch(const struct expected *e, unsigned crtc, int client, unsigned command) {
+    unsigned commit;
+    if (sscanf(expected_reply(e, client, command), "commit %u", &commit) != 1)
+        return NULL;
     for (unsigned i = 0; i < e->latch_count; i++)
         if (e->latches[i].crtc == crtc && e->latches[i].commit == commit)
             return &e->latches[i];
     return NULL;
 }
 
-const char *expected_digest(const struct expected *e, unsigned crtc, unsigned commit) {
-    const struct expected_latch *l = find_latch(e, crtc, commit);
+const char *expected_digest(const struct expected *e, unsigned crtc, int client, unsigned command) {
+    const struct expected_latch *l = find_latch(e, crtc, client, command);
     return l ? l->digest : "";
 }
 
-struct frame expected_frame(const struct expected *e, unsigned crtc, unsigned commit) {
-    const struct expected_latch *l = find_latch(e, crtc, commit);
+struct frame expected_frame(const struct expected *e, unsigned crtc, int client, unsigned command) {
+    const struct expected_latch *l = find_latch(e, crtc, client, command);
     return l ? l->frame : (struct frame){0};
 }
 
-/* The kernel's crc32_le, by its polynomial, lowest bit first. */
+/* The kernel's crc32_le, by its polynomial, lowest bit first: four bits at a time, by what they make of a sum. */
 static uint32_t add_byte(uint32_t sum, uint8_t byte) {
+    static uint32_t made[16];
+    for (uint32_t bits = 1; !made[15] && bits < 16; bits++) {
+        made[bits] = bits;
+        for (int i = 0; i < 4; i++)
+            made[bits] = made[bits] >> 1 ^ (made[bits] & 1 ? 0xedb88320u : 0);
+    }
     sum ^= byte;
-    for (int i = 0; i < 8; i++)
-        sum = sum >> 1 ^ (sum & 1 ? 0xedb88320u : 0);
-    return sum;
+    sum = sum >> 4 ^ made[sum & 15];
+    return sum >> 4 ^ made[sum & 15];
 }
 
 /* A channel of 8 bits as one of 16 has the byte twice. */

@@ -20,9 +20,9 @@ struct expected *read_expected(const char *path);
 /* The words of the reply to a command, or "". */
 const char *expected_reply(const struct expected *e, int client, unsigned command);
 
-/* The digest of what a CRTC shows after a commit (`off` too), or "". */
-const char *expected_digest(const struct expected *e, unsigned crtc, unsigned commit);
-struct frame expected_frame(const struct expected *e, unsigned crtc, unsigned commit);
+/* The digest of what a CRTC shows after a client's command (`off` too), or "". */
+const char *expected_digest(const struct expected *e, unsigned crtc, int client, unsigned command);
+struct frame expected_frame(const struct expected *e, unsigned crtc, int client, unsigned command);
 
 /* vkms's checksum of a frame: the CRC32 of its pixels, as four words of 16 bits each with full alpha (vkms_composer.c). */
 uint32_t vkms_checksum(struct frame f);

@@ -35,6 +35,7 @@ enum {
     FIRST_THING = 1000,
     PATIENCE_MS = 300,      /* how long a command may take before the next client has its turn */
     MOST_STILL_ROUNDS = 10, /* rounds without an answer before the run is given up */
+    REST_MS = 50,           /* how long commits that were let go have for their flips: three frames at 60 Hz */
 };
 
 /* An id and a file that nothing has. */
@@ -61,6 +62,7 @@ struct client {
     unsigned count, answered_count;
     unsigned reserved; /* events that it was promised and has not read */
     bool is_running;
+    bool lets_go;       /* its last command let a commit go that it did not wait for */
     struct reply reply; /* to its last command */
     sem_t turn, answered;
 };
@@ -272,9 +274,11 @@ static void do_addfb(struct client *c, char **words) {
     struct thing *b = find_thing(words[2]);
     bool is_own = b && b->kind == BUFFER && b->owner == c->number;
     uint32_t handles[4] = {is_own ? b->id : NO_ID}, offsets[4] = {0}, id;
-    uint32_t pitches[4] = {b ? b->pitch : 64};
-    uint32_t format = b && b->format ? b->format : DRM_FORMAT_XRGB8888;
-    if (drmModeAddFB2(c->file, b ? b->width : 16, b ? b->height : 16, format, handles, pitches, offsets, &id, 0)) {
+    bool has_size = b && b->kind == BUFFER;
+    /* what is no buffer has a size that drivers take, so that they look for it */
+    uint32_t pitches[4] = {has_size ? b->pitch : 256};
+    uint32_t format = has_size ? b->format : DRM_FORMAT_XRGB8888;
+    if (drmModeAddFB2(c->file, has_size ? b->width : 64, has_size ? b->height : 64, format, handles, pitches, offsets, &id, 0)) {
         answer_error(c, errno);
         return;
     }
@@ -353,6 +357,7 @@ static void do_signal(struct client *c, char **words) {
         return;
     }
     t->is_signalled = true;
+    c->lets_go = true;
     answer(c, false, "done");
 }
 
@@ -532,9 +537,10 @@ static void enter_commit(struct client *c, struct request *r, uint32_t flags, ui
     keep_out_fences(c, r);
     unsigned named = follow_request(r, true);
     bool has_event = flags & DRM_MODE_PAGE_FLIP_EVENT;
-    tell_commit(&(struct commit){c->number, has_event, user_data, named, active});
+    tell_commit(&(struct commit){c->number, c->reply.command, has_event, user_data, named, active});
     c->reserved += has_event ? __builtin_popcount(named) : 0;
-    for (unsigned i = 0; i < crtcs.count && !(flags & DRM_MODE_ATOMIC_NONBLOCK); i++)
+    c->lets_go = flags & DRM_MODE_ATOMIC_NONBLOCK;
+    for (unsigned i = 0; i < crtcs.count && !c->lets_go; i++)
         if (named >> i & 1)
             see_flipped(i);
 }
@@ -641,6 +647,7 @@ static void execute(struct client *c, char *line) {
 /* Executes a command, and tells the reply and its place in the journal: by the order in which calls come back. */
 static void run_command(struct client *c, unsigned command) {
     c->reply = (struct reply){.client = c->number, .command = command, .event = -1, .busy_crtc = -1};
+    c->lets_go = false;
     execute(c, c->lines[command - 1]);
     c->reply.place = journal_count;
     journal_count += c->reply.is_accepted;
@@ -669,6 +676,23 @@ static bool is_answered(struct client *c) {
     return sem_timedwait(&c->answered, &until) == 0;
 }
 
+static bool is_one_running(void) {
+    for (unsigned i = 0; i < client_count; i++)
+        if (clients[i].is_running)
+            return true;
+    return false;
+}
+
+/* Lets commits flip that nobody waited for, as `kms one` does before the next client's turn. Where no commit waits for a fence and no call
+ * is in the kernel, all have flipped then, and what they show is seen. */
+static void rest(void) {
+    usleep(REST_MS * 1000);
+    pthread_mutex_lock(&table);
+    for (unsigned i = 0; i < crtcs.count && !awaited_fence() && !is_one_running(); i++)
+        see_flipped(i);
+    pthread_mutex_unlock(&table);
+}
+
 /* One command of each client, as far as it answers in time; false where no client has a command left. */
 static bool run_round(bool *moved) {
     bool is_left = false;
@@ -684,6 +708,8 @@ static bool run_round(bool *moved) {
             c->answered_count++;
             c->is_running = false;
             *moved = true;
+            if (c->lets_go)
+                rest();
         }
     }
     return is_left;

@@ -161,7 +161,8 @@ static bool show(const struct view *v, unsigned crtc, const struct lit *l, struc
 void see_alone(const struct view *v, const struct expected *expected) {
     struct checksum *c;
     for (unsigned i = 0; (c = told_checksum(i)); i++) {
-        struct frame f = expected_frame(expected, c->crtc, c->commit);
+        const struct commit *of = told_commit(c->commit);
+        struct frame f = expected_frame(expected, c->crtc, of->client, of->command);
         if (f.bytes && show(v, c->crtc, &lit[i], f))
             read_checksum(v, c->crtc, c->alone);
     }

@@ -227,14 +227,15 @@ static bool is_as_expected(const struct checksum *c, struct frame f, bool is_vkm
 
 /* Prints the latch of a commit; true where its frame was seen, or is none. */
 static bool print_latch(unsigned crtc, unsigned commit, const struct expected *expected, bool is_vkms) {
+    const struct commit *of = &commits[commit];
     printf("L %u %u %u ", crtc, commit, count_at(crtc, commit));
-    if (!(commits[commit].active >> crtc & 1)) {
+    if (!(of->active >> crtc & 1)) {
         puts("off");
         return true;
     }
-    const char *digest = expected_digest(expected, crtc, commit);
+    const char *digest = expected_digest(expected, crtc, of->client, of->command);
     const struct checksum *c = find_checksum(crtc, commit);
-    if (*digest && (!c || is_as_expected(c, expected_frame(expected, crtc, commit), is_vkms))) {
+    if (*digest && (!c || is_as_expected(c, expected_frame(expected, crtc, of->client, of->command), is_vkms))) {
         puts(digest);
         return c != NULL;
     }

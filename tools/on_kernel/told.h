@@ -26,6 +26,7 @@ struct reply {
 /* An accepted commit. CRTCs are bits. */
 struct commit {
     int client;
+    unsigned command;
     bool has_event;
     uint64_t user_data;
     unsigned named, active; /* the CRTCs that it names, and those that are active behind it */

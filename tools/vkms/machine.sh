@@ -80,6 +80,6 @@ boot() {
     (cd "$disk" && find . | cpio -o -H newc --quiet | gzip -1) >"$folder/initrd"
     qemu-system-x86_64 -accel tcg -icount shift=2,sleep=off -m "$1" -display none -serial stdio -no-reboot -nic none -vga none \
         -device virtio-gpu-pci,max_outputs=2 -kernel "$kernel/image/boot/vmlinuz-$release" -initrd "$folder/initrd" \
-        -append "console=ttyS0 quiet loglevel=1 no_timer_check panic=-1" </dev/null | tr -d '\r' |
-        awk '/^== end$/ { ended = 1 } !ended { print } END { exit !ended }'
+        -append "console=ttyS0 quiet loglevel=1 no_timer_check panic=-1" </dev/null |
+        awk '{ sub(/\r$/, "") } /^== end$/ { ended = 1 } !ended { print; fflush() } END { exit !ended }'
 }
