@@ -30,7 +30,7 @@ use kms_picture::picture;
 use kms_props::is_test;
 use kms_request::{Looker, changed, named_in, spans};
 use kms_state::Duplicating;
-use kms_things::{start_states, swapped};
+use kms_things::{start_states, swap};
 use std::alloc::Global;
 use std::marker::Model;
 
@@ -126,7 +126,7 @@ impl Serial {
             return Ok((Reply::Tested, 0));
         }
         let commit = self.store.commit(client, request, &self.topology)?;
-        self.states = swapped(&after);
+        self.states = swap(&after);
         Ok((Reply::Commit { commit }, named_in(&after, request)))
     }
 

@@ -11,7 +11,7 @@ returns-then-is_test-clause-executed c = rw (← c.self.view_is) (tests c.self.i
 
 pub invariant_of-self-2 : goal.invariant_of-self-2
 invariant_of-self-2 c =
-    rw (c.in_ok-commit.ensures.world, c.swapped-self-inside.ensures.states)
+    rw (c.in_ok-commit.ensures.world, c.swap-self-inside.ensures.states)
     (stands_committed c.self.inside.topology c.self.inside.store c.self.inside.states c.in-Ok.after c.args.client c.args.request.now c.self.invariant c.in-Ok.ensures.accepted (sym c.is_test.ensures ∙ c.if-is_test.false) c.in-Ok.ensures.after)
 
 pub returns-clause-executed : goal.returns-clause-executed
