@@ -2,9 +2,10 @@
 # Times turns at the device that threads share, with 1, 2, 4 and 8 passes on as many threads: for each it prints how many
 # events there were, by how many turns, the time that they took, how many events that is in a second, and how long it is from
 # one turn to the next. Two lines more tell how long a turn is, with all of the lock and with nobody else at it: one that asks where
-# a client stands, one that begins a context, one that locks a CRTC. Builds the program of main.rt.txt beside copies of the crates
-# that it uses, in a folder of its own; the copies tell how many turns were taken. It builds without a proof, and without
-# optimisation, as `rt try` does.
+# a client stands, one that begins a context, one that locks a CRTC. The last two tell how many turns a client takes that plays
+# alone: one that comes to its end, and one that waits for an event, a thousand times at most. Builds the program of main.rt.txt
+# beside copies of the crates that it uses, in a folder of its own; the copies tell how many turns were taken. It builds without a
+# proof, and without optimisation, as `rt try` does.
 set -eu
 here=$(cd "$(dirname "$0")" && pwd)
 . "$here/../program.sh"
@@ -28,5 +29,5 @@ impl Device {
     }
 }
 END
-program bench_turns kms_model kms_device kms_script kms_thread_tests
-rt try 2>&1 | grep "passes:\|a turn\|error"
+program bench_turns kms_io kms_model kms_device kms_players kms_pool kms_script kms_thread_tests
+rt try 2>&1 | grep "passes:\|a turn\|a client\|error"

@@ -2,3 +2,4 @@ mod Waits
 mod NothingDone
 mod Standing
 mod PlainSteps
+mod Behind

@@ -25,7 +25,8 @@ RestTurn script step_in before after Ended = (n : ℕ) × FindsNoStep script ste
 
 -- a turn found nothing to do, and whether the history is drained
 module _ (script : Script) (step_in : Run → Option Step) (before after : DevicePass) (n : ℕ) (long : n ≡ length after.seen) where
-  found_none : (b : Bool) → DeviceTurn script (λ found. (step_in found ≡ None) × (b ≡ is_drained found.script (machine found))) [] before after → FindsNoStep script step_in n b before after
+  found_none : (b : Bool) → DeviceTurn script (λ found. (step_in found ≡ None) × (b ≡ is_drained found.script (machine found))) [] before
+      after → FindsNoStep script step_in n b before after
   found_none b t = record {
     found = t.found;
     finds = t.finds;
@@ -34,14 +35,18 @@ module _ (script : Script) (step_in : Run → Option Step) (before after : Devic
     left = t.left;
   }
 
-  pub rests : (b : Bool) (answer : pool.Turn) → answer ≡ told_at n b → DeviceTurn script (λ found. (step_in found ≡ None) × (b ≡ is_drained found.script (machine found))) [] before after
+  pub rests : (b : Bool) (answer : pool.Turn) → answer ≡ told_at n b
+      → DeviceTurn script (λ found. (step_in found ≡ None) × (b ≡ is_drained found.script (machine found))) [] before after
       → RestTurn script step_in before after answer
   rests false answer e t = subst (RestTurn script step_in before after) (sym e) (found_none false t)
   rests true answer e t = subst (RestTurn script step_in before after) (sym e) (n, found_none true t)
 
-module _ (script : Script) (before after : DevicePass) (n : ℕ) (long : n ≡ length after.seen) (b : Bool) (answer : pool.Turn) (told : answer ≡ told_at n b) where
+module _ (script : Script) (before after : DevicePass) (n : ℕ) (long : n ≡ length after.seen) (b : Bool) (answer : pool.Turn)
+    (told : answer ≡ told_at n b) where
   -- a vblank player found no commit that the CRTC latches
-  pub tick_rests : (crtc : ℕ) → DeviceTurn script (λ found. (false ≡ blanks_at found crtc) × (b ≡ (true && is_drained found.script (machine found)))) [] before after → TickTurn script crtc before after answer
+  pub tick_rests : (crtc : ℕ) → DeviceTurn script
+      (λ found. (false ≡ blanks_at found crtc) × (b ≡ (true && is_drained found.script (machine found)))) [] before after
+      → TickTurn script crtc before after answer
   tick_rests crtc t =
       of answer
       (rests script (step_of_tick crtc) before after n long b answer told
@@ -53,13 +58,15 @@ module _ (script : Script) (before after : DevicePass) (n : ℕ) (long : n ≡ l
         of (NotYet m) r = r
         of Ended r = r
 
-  worker_of : (hand : Option ℕ) (a : pool.Turn) → RestTurn script (step_of_worker hand) before after a → WorkerTurn script before hand after hand a
+  worker_of : (hand : Option ℕ) (a : pool.Turn) → RestTurn script (step_of_worker hand) before after a
+      → WorkerTurn script before hand after hand a
   worker_of hand Did r = absurd r
   worker_of hand (NotYet m) r = (r, refl)
   worker_of hand Ended r = (r, refl)
 
   -- a worker found nothing to claim
-  pub claim_rests : DeviceTurn script (λ found. (None ≡ first_claim found) × (b ≡ rests_in {A = ℕ} None found)) [] before after → WorkerTurn script before None after None answer
+  pub claim_rests : DeviceTurn script (λ found. (None ≡ first_claim found) × (b ≡ rests_in {A = ℕ} None found)) [] before after
+      → WorkerTurn script before None after None answer
   claim_rests t =
       worker_of None answer
       (rests script (step_of_worker None) before after n long b answer told
@@ -68,7 +75,8 @@ module _ (script : Script) (before after : DevicePass) (n : ℕ) (long : n ≡ l
       (λ found finds left said. (ap (option_map step.Claim) (sym said.0), said.1)) t))
 
   -- a worker found nothing to do for the commit in its hand
-  pub work_rests : (k : ℕ) → DeviceTurn script (λ found. (None ≡ find (is_legal found) (tail_of found.script.topology k)) × (b ≡ rests_in {A = Step} None found)) [] before after
+  pub work_rests : (k : ℕ) → DeviceTurn script (λ found. (None ≡ find (is_legal found) (tail_of found.script.topology k))
+      × (b ≡ rests_in {A = Step} None found)) [] before after
       → WorkerTurn script before (Some k) after (Some k) answer
   work_rests k t =
       worker_of (Some k) answer
@@ -79,16 +87,21 @@ module _ (script : Script) (before after : DevicePass) (n : ℕ) (long : n ≡ l
 
 -- the pass is that of the same player
 
-rest_name : (script : Script) (step_in : Run → Option Step) (n : ℕ) (b : Bool) (before after : DevicePass) → FindsNoStep script step_in n b before after → name_of_pass after ≡ name_of_pass before
+rest_name : (script : Script) (step_in : Run → Option Step) (n : ℕ) (b : Bool) (before after : DevicePass)
+    → FindsNoStep script step_in n b before after → name_of_pass after ≡ name_of_pass before
 rest_name script step_in n b before after t =
-    turn_name script (λ found. (step_in found ≡ None) × (length found.steps ≡ n) × (is_drained found.script (machine found) ≡ b)) [] before after t
+    turn_name script (λ found. (step_in found ≡ None) × (length found.steps ≡ n) × (is_drained found.script (machine found) ≡ b)) [] before
+    after t
 
-pub tick_name : (script : Script) (crtc : ℕ) (before after : DevicePass) (answer : pool.Turn) → TickTurn script crtc before after answer → name_of_pass after ≡ name_of_pass before
-tick_name script crtc before after Did t = turn_name script (λ found. step_of_tick crtc found ≡ Some (step.Vblank Crtc crtc)) (step.Vblank Crtc crtc ∷ []) before after t
+pub tick_name : (script : Script) (crtc : ℕ) (before after : DevicePass) (answer : pool.Turn) → TickTurn script crtc before after answer
+    → name_of_pass after ≡ name_of_pass before
+tick_name script crtc before after Did t = turn_name script (λ found. step_of_tick crtc found ≡ Some (step.Vblank Crtc crtc))
+    (step.Vblank Crtc crtc ∷ []) before after t
 tick_name script crtc before after (NotYet n) t = rest_name script (step_of_tick crtc) n false before after t
 tick_name script crtc before after Ended t = rest_name script (step_of_tick crtc) t.0 true before after t.1
 
-pub worker_name : (script : Script) (before after : DevicePass) (old new : Option ℕ) (answer : pool.Turn) → WorkerTurn script before old after new answer → name_of_pass after ≡ name_of_pass before
+pub worker_name : (script : Script) (before after : DevicePass) (old new : Option ℕ) (answer : pool.Turn)
+    → WorkerTurn script before old after new answer → name_of_pass after ≡ name_of_pass before
 worker_name script before after old new Did t = turn_name script (λ found. step_of_worker old found ≡ Some t.0) (t.0 ∷ []) before after t.1
 worker_name script before after old new (NotYet n) t = rest_name script (step_of_worker old) n false before after t.0
 worker_name script before after old new Ended t = rest_name script (step_of_worker old) t.0.0 true before after t.0.1

@@ -49,7 +49,8 @@ MakesStep script client before after next =
 -- its next step was not legal in the history of a length that was found
 abbrev pub LacksStep : Script → ℕ → ℕ → DevicePass → DevicePass → Step → Type 0
 LacksStep script client length_found before after next =
-    DeviceTurn script (λ found. (plain_step found client ≡ Some next) × (is_legal found next ≡ false) × (length found.steps ≡ length_found)) [] before after
+    DeviceTurn script (λ found. (plain_step found client ≡ Some next) × (is_legal found next ≡ false) × (length found.steps ≡ length_found))
+    [] before after
 
 -- what became of the step of a client that is at no request, by the answer
 abbrev pub PlainTurn : Script → ℕ → DevicePass → DevicePass → pool.Turn → Type 0
@@ -67,12 +68,14 @@ AttemptTurn script client before old after new (NotYet n) =
 AttemptTurn script client before old after new Ended = ⊥
 
 -- a client that stands at a request, and does not wait for a commit of its own, made an attempt at it
-pub record RequestTurn (script : Script) (client : ℕ) (before : DevicePass) (old : Attempt) (after : DevicePass) (new : Attempt) (answer : pool.Turn) : Type 0 where
+pub record RequestTurn (script : Script) (client : ℕ) (before : DevicePass) (old : Attempt) (after : DevicePass) (new : Attempt)
+    (answer : pool.Turn) : Type 0 where
   pub may : MayAttempt (run_seen script before) client
   pub attempt : AttemptTurn script client before old after new answer
 
 -- It was told where it stands, unless it knew, which makes no step: then it made its step, and keeps what it kept, or an attempt.
-pub record Plays (script : Script) (client : ℕ) (before : DevicePass) (old : Attempt) (after : DevicePass) (new : Attempt) (answer : pool.Turn) : Type 0 where
+pub record Plays (script : Script) (client : ℕ) (before : DevicePass) (old : Attempt) (after : DevicePass) (new : Attempt)
+    (answer : pool.Turn) : Type 0 where
   pub told : DevicePass
   pub went : Went [] before told
   pub did : (PlainTurn script client told after answer × (new ≡ old)) ⊎ RequestTurn script client told old after new answer
@@ -93,7 +96,8 @@ DoesStep script step_in before after next = DeviceTurn script (λ found. step_in
 abbrev pub FindsNoStep : Script → (Run → Option Step) → ℕ → Bool → DevicePass → DevicePass → Type 0
 FindsNoStep script step_in length_found drained before after =
     DeviceTurn script
-    (λ found. (step_in found ≡ None) × (length found.steps ≡ length_found) × (is_drained found.script (machine found) ≡ drained)) [] before after
+    (λ found. (step_in found ≡ None) × (length found.steps ≡ length_found) × (is_drained found.script (machine found) ≡ drained)) [] before
+    after
 
 -- what a turn comes to that found nothing to do in a history of a length, by whether the history is drained
 abbrev pub told_at : ℕ → Bool → pool.Turn

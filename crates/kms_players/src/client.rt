@@ -7,7 +7,7 @@ ghost use Rattle.kms_players.specs.Took.{ClientLooked, ClientTook};
 
 use crate::looking::look;
 use crate::name::Name;
-use crate::site::Site;
+use crate::site::{Site, Standing};
 use kms_device::{Attempt, Device, Pass};
 use kms_io::Gate;
 use kms_model::NoMemory;
@@ -22,14 +22,13 @@ pub struct Client<'a, G: Gate> {
     site: Site<'a, G>,
     pass: Pass,
     kept: Attempt,
-    // The number of the command at which it makes attempts.
-    under_way: Option<u32>,
+    standing: Standing,
     last: Option<Turn>,
 }
 
 impl<'a, G: Gate> Model for Client<'a, G> {
     ghost use Rattle.kms_players.specs.Players.{ClientState};
-    ghost use Rattle.kms_players.specs.UnderWay.{IsAtDevice, IsUnderWay};
+    ghost use Rattle.kms_players.specs.UnderWay.{IsAtDevice, Knows};
     ghost use Rattle.kms_device.specs.Turns.{run_seen};
 
     ghost Value = { ClientState };
@@ -43,7 +42,7 @@ impl<'a, G: Gate> Model for Client<'a, G> {
     } };
 
     ghost invariant = { λ c. IsAtDevice c.site.device.now c.site.client c.pass
-        × IsUnderWay (run_seen c.site.device.now.script c.pass) c.site.client c.kept c.under_way };
+        × Knows (run_seen c.site.device.now.script c.pass) c.site.client c.kept c.standing };
 }
 
 impl<'a, G: Gate> Client<'a, G> {
@@ -70,7 +69,7 @@ impl<'a, G: Gate> Client<'a, G> {
             },
             pass,
             kept: Attempt::new(),
-            under_way: None,
+            standing: Standing::Unknown,
             last: None,
         }
     }
@@ -87,10 +86,11 @@ impl<'a, G: Gate> Client<'a, G> {
         ensures no_step { OnErr result (Went [] self.old.pass self.new.pass) }
         ensures anew { OnErr result (self.new.kept ≡ new_attempt) }
     {
-        let (turn, under_way) = self
+        let standing = std::mem::replace(&mut self.standing, Standing::Unknown);
+        let (turn, standing) = self
             .site
-            .turn(rt, alloc, &mut self.pass, &mut self.kept, self.under_way)?;
-        self.under_way = under_way;
+            .turn(rt, alloc, &mut self.pass, &mut self.kept, standing)?;
+        self.standing = standing;
         self.last = Some(turn);
         Ok(turn)
     }

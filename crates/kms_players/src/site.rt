@@ -1,19 +1,19 @@
 //! What a client does in a turn.
-ghost use Rattle.std.specs.Prelude.{◌≡◌, [], Some, None, IfOk, OnErr, option_copied};
+ghost use Rattle.std.specs.Prelude.{◌≡◌, ◌<◌, [], Some, None, IfOk, OnErr, option_copied};
 ghost use Rattle.kms_model.specs.Device.Serial.{command_of};
 ghost use Rattle.kms_model.specs.Machine.State.{place_at, request_in};
 ghost use Rattle.kms_pool.specs.declared.player.Turn.TheVariants.{Did};
 ghost use Rattle.kms_core.specs.Calls.{MayRead, MayReturn, idle_command_at};
 ghost use Rattle.kms_core.specs.Run.{machine};
-ghost use Rattle.kms_device.specs.Attempts.{Went, new_attempt};
+ghost use Rattle.kms_device.specs.Attempts.{StandsAt, Went, new_attempt};
 ghost use Rattle.kms_device.specs.Turns.{IsOpen, run_seen};
 ghost use Rattle.kms_players.specs.Players.{name_of_pass};
 ghost use Rattle.kms_players.specs.PlayerTurns.{AttemptTurn, ClientTurn, PlainTurn};
-ghost use Rattle.kms_players.specs.UnderWay.{IsAtDevice, IsAttempting, IsUnderWay};
+ghost use Rattle.kms_players.specs.UnderWay.{IsAtDevice, IsAttempting, Knows, PlaysAt, standing_at, standing_behind};
 
 use kms_device::{Attempt, Attempted, Device, Pass};
 use kms_io::{Gate, Point};
-use kms_model::{Command, Doing, NoMemory, command_of};
+use kms_model::{Command, Doing, NoMemory, Place, command_of};
 use kms_pool::Turn;
 use std::alloc::Global;
 use std::sync::Wait;
@@ -26,68 +26,114 @@ pub(crate) struct Site<'a, G: Gate> {
     pub(crate) client: u32,
 }
 
+/// What a client knows between its turns of where it stands. Its own steps alone move it, so that it stays so while others go on.
+#[derive(Clone, Copy)]
+pub(crate) enum Standing {
+    /// Nothing: it is to be asked for, in a turn of its own.
+    Unknown,
+    /// It stands at this place, where it has a step to do, and has no attempt under way.
+    At(Place),
+    /// It makes attempts at its request, the command with a number. What is kept of these may tell the place.
+    Attempting {
+        /// The number of the command, counted from 1.
+        command: u32,
+    },
+}
+
 impl<'a, G: Gate> Site<'a, G> {
-    /// A turn of a client that may have an attempt under way, at the command with a number. The answer is given, with
-    /// that number after the turn.
+    /// A turn of a client, by what it knows of where it stands. The answer is given, with what it knows after the turn. Behind want
+    /// of memory it knows nothing.
     pub(crate) fn turn<W: Wait>(
         &self,
         rt: &W,
         alloc: Global,
         pass: &mut Pass,
         kept: &mut Attempt,
-        under_way: Option<u32>,
-    ) -> Result<(Turn, Option<u32>), NoMemory>
+        standing: Standing,
+    ) -> Result<(Turn, Standing), NoMemory>
         requires at { IsAtDevice self.now.device.now self.now.client pass.old }
-        requires under_way { IsUnderWay (run_seen self.now.device.now.script pass.old)
-            self.now.client kept.old under_way }
+        requires knows { Knows (run_seen self.now.device.now.script pass.old)
+            self.now.client kept.old standing }
         ensures turn { IfOk result (λ r. ClientTurn self.now.device.now.script self.now.client
             pass.old kept.old pass.new kept.new r.0) }
-        ensures under_way { IfOk result (λ r. IsUnderWay
-            (run_seen self.now.device.now.script pass.new) self.now.client kept.new r.1) }
+        ensures knows { IfOk result (λ r. Knows (run_seen self.now.device.now.script pass.new)
+            self.now.client kept.new r.1) }
         ensures name { name_of_pass pass.new ≡ name_of_pass pass.old }
         ensures no_step { OnErr result (Went [] pass.old pass.new) }
-        ensures still { OnErr result (IsUnderWay (run_seen self.now.device.now.script pass.new)
-            self.now.client kept.new under_way) }
         ensures anew { OnErr result (kept.new ≡ new_attempt) }
     {
-        match under_way {
-            Some(number) => self.attempt(rt, alloc, pass, number, kept),
-            None => self.ask(rt, alloc, pass, kept),
+        match standing {
+            Standing::Attempting { command } => self.attempt(rt, alloc, pass, command, kept),
+            Standing::At(place) => self.play_at(rt, alloc, pass, kept, place),
+            Standing::Unknown => {
+                let place = self.device.place(rt, pass, self.client);
+                self.play_at(rt, alloc, pass, kept, place)
+            }
         }
     }
 
-    /// A turn of a client with no attempt under way. The answer is given, with the number of the command of which an attempt
-    /// is under way then.
-    fn ask<W: Wait>(
+    /// What a client with no attempt under way does at the place where it stands. At its end it does nothing, in no turn. The
+    /// answer is given, with what it knows then.
+    fn play_at<W: Wait>(
         &self,
         rt: &W,
         alloc: Global,
         pass: &mut Pass,
         kept: &mut Attempt,
-    ) -> Result<(Turn, Option<u32>), NoMemory>
+        place: Place,
+    ) -> Result<(Turn, Standing), NoMemory>
         requires at { IsAtDevice self.now.device.now self.now.client pass.old }
         requires new { kept.old ≡ new_attempt }
-        ensures turn { IfOk result (λ r. ClientTurn self.now.device.now.script self.now.client
+        requires stands { StandsAt (run_seen self.now.device.now.script pass.old)
+            self.now.client place }
+        ensures plays { IfOk result (λ r. PlaysAt self.now.device.now.script self.now.client
             pass.old kept.old pass.new kept.new r.0) }
-        ensures under_way { IfOk result (λ r. IsUnderWay
-            (run_seen self.now.device.now.script pass.new) self.now.client kept.new r.1) }
+        ensures knows { IfOk result (λ r. Knows (run_seen self.now.device.now.script pass.new)
+            self.now.client kept.new r.1) }
         ensures no_step { OnErr result (Went [] pass.old pass.new) }
         ensures anew { OnErr result (kept.new ≡ new_attempt) }
     {
-        let place = self.device.place(rt, pass, self.client);
         if let Doing::Returning(_commit) = place.doing {
-            return Ok((self.go_on(rt, pass)?, None));
+            let turn = self.go_on(rt, pass)?;
+            return Ok((turn, self.behind(turn, place)));
         }
         let script = self.device.script();
         let Some(command) = command_of(script, self.client, place.command) else {
-            return Ok((Turn::Ended, None));
+            return Ok((Turn::Ended, Standing::Unknown));
         };
         if let Command::Atomic(_request) = command {
             *kept = Attempt::at(place);
             return self.attempt(rt, alloc, pass, place.command, kept);
         }
         let turn = self.execute(rt, alloc, pass, place.command, command)?;
-        Ok((turn, None))
+        Ok((turn, self.behind(turn, place)))
+    }
+
+    /// What a client knows behind a turn that began at a place, at no request: with its step it went on to its next command, and
+    /// without one it stands where it stood.
+    fn behind(&self, turn: Turn, place: Place) -> Standing
+        requires { place.command < 4294967295 }
+        ensures { result
+            ≡ standing_behind self.now.device.now.script self.now.client turn place }
+    {
+        match turn {
+            Turn::Did => self.idle_at(place.command + 1),
+            Turn::NotYet { .. } => Standing::At(place),
+            Turn::Ended => Standing::Unknown,
+        }
+    }
+
+    /// What a client knows that is idle at the command with a number. That there is none is told by a turn.
+    fn idle_at(&self, command: u32) -> Standing
+        ensures { result ≡ standing_at self.now.device.now.script self.now.client command }
+    {
+        match command_of(self.device.script(), self.client, command) {
+            Some(_command) => Standing::At(Place {
+                command,
+                doing: Doing::Idle,
+            }),
+            None => Standing::Unknown,
+        }
     }
 
     /// An attempt at the request at which a client stands, the command with a number.
@@ -98,29 +144,28 @@ impl<'a, G: Gate> Site<'a, G> {
         pass: &mut Pass,
         number: u32,
         kept: &mut Attempt,
-    ) -> Result<(Turn, Option<u32>), NoMemory>
+    ) -> Result<(Turn, Standing), NoMemory>
         requires own { pass.old.lock ≡ self.now.device.now.lock }
         requires whose { pass.old.rank ≡ self.now.client }
         requires attempting { IsAttempting (run_seen self.now.device.now.script pass.old)
             self.now.client kept.old number }
         ensures turn { IfOk result (λ r. AttemptTurn self.now.device.now.script self.now.client
             pass.old kept.old pass.new kept.new r.0) }
-        ensures under_way { IfOk result (λ r. IsUnderWay
-            (run_seen self.now.device.now.script pass.new) self.now.client kept.new r.1) }
+        ensures knows { IfOk result (λ r. Knows (run_seen self.now.device.now.script pass.new)
+            self.now.client kept.new r.1) }
         ensures no_step { OnErr result (Went [] pass.old pass.new) }
-        ensures attempting { OnErr result (IsAttempting
-            (run_seen self.now.device.now.script pass.new) self.now.client kept.new number) }
         ensures anew { OnErr result (kept.new ≡ new_attempt) }
     {
+        let standing = Standing::Attempting { command: number };
         match self
             .device
             .attempt(rt, alloc, pass, self.client, self.gate, kept)?
         {
-            Attempted::Did => Ok((Turn::Did, Some(number))),
-            Attempted::NotYet { length } => Ok((Turn::NotYet { length }, Some(number))),
+            Attempted::Did => Ok((Turn::Did, standing)),
+            Attempted::NotYet { length } => Ok((Turn::NotYet { length }, standing)),
             Attempted::Answered(_reply) => {
                 self.gate.at(rt, Point::Answered, self.client, number);
-                Ok((Turn::Did, None))
+                Ok((Turn::Did, Standing::Unknown))
             }
         }
     }

@@ -9,5 +9,6 @@ pub returns-in-None : goal.returns-in-None
 returns-in-None g c =
     let done = c.claim_or_rest-claimed in
     claim_rests _ c.args.pass.now done.new.pass _ c.seen_len.ensures _ _ c.rest.ensures
-    (subst (λ claimed. DeviceTurn c.args.device.now.script (λ found. (claimed ≡ first_claim found) × (done.result.1 ≡ rests_in claimed found))
+    (subst (λ claimed. DeviceTurn c.args.device.now.script
+    (λ found. (claimed ≡ first_claim found) × (done.result.1 ≡ rests_in claimed found))
     (claim_steps claimed) c.args.pass.now done.new.pass) c.in-None.is done.ensures)

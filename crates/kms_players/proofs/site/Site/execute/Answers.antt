@@ -10,14 +10,17 @@ use Rattle.kms_players.proofs.site.Site.execute.Goals as goal
 
 pub signal-requires-clause-may : goal.signal-requires-clause-may
 signal-requires-clause-may g c =
-    may_signal_it (run_seen c.args.self.now.device.now.script c.args.pass.now) c.args.self.now.client c.args.command.now c.requires.is_open c.requires.idle (ap is_signal c.in-Signal.is)
+    may_signal_it (run_seen c.args.self.now.device.now.script c.args.pass.now) c.args.self.now.client c.args.command.now c.requires.is_open
+    c.requires.idle (ap is_signal c.in-Signal.is)
 
 pub returns-in_err-_reply-in-Signal-clause-no_step : goal.returns-in_err-_reply-in-Signal-clause-no_step
-returns-in_err-_reply-in-Signal-clause-no_step g c = OnErr-always c.from_residual.result (went_none _ _ _ _ c.in_err-_reply-in-Signal.ensures)
+returns-in_err-_reply-in-Signal-clause-no_step g c = OnErr-always c.from_residual.result
+    (went_none _ _ _ _ c.in_err-_reply-in-Signal.ensures)
 
 pub returns-in_ok-_reply-in-Signal-clause-turn : goal.returns-in_ok-_reply-in-Signal-clause-turn
 returns-in_ok-_reply-in-Signal-clause-turn g c =
-    subst (PlainTurn c.args.self.now.device.now.script c.args.self.now.client c.args.pass.now c.signal.new.pass) (sym c.come_to_gate.ensures)
+    subst (PlainTurn c.args.self.now.device.now.script c.args.self.now.client c.args.pass.now c.signal.new.pass)
+    (sym c.come_to_gate.ensures)
     (step.Signal c.args.self.now.client, signalled_it _ _ c.args.self.now.client _ _ c.in_ok-_reply-in-Signal.ensures)
 
 pub make-requires : goal.make-requires
@@ -25,7 +28,8 @@ make-requires g c = record {
   own = c.requires.own;
   whose = c.requires.whose;
   may =
-      may_make_it (run_seen c.args.self.now.device.now.script c.args.pass.now) c.args.self.now.client c.args.command.now c.requires.is_open c.requires.idle
+      may_make_it (run_seen c.args.self.now.device.now.script c.args.pass.now) c.args.self.now.client c.args.command.now c.requires.is_open
+      c.requires.idle
       (making_of c.args.command.now c.requires.no_request c.in_default.not-Signal c.in_default.not-Wait);
 }
 
@@ -38,7 +42,8 @@ returns-in_err-_reply-in_default g c = record {
 pub returns-in_ok-_reply-in_default : goal.returns-in_ok-_reply-in_default
 returns-in_ok-_reply-in_default g c = record {
   turn =
-      subst (PlainTurn c.args.self.now.device.now.script c.args.self.now.client c.args.pass.now c.make.new.pass) (sym c.come_to_gate-in_default.ensures)
+      subst (PlainTurn c.args.self.now.device.now.script c.args.self.now.client c.args.pass.now c.make.new.pass)
+      (sym c.come_to_gate-in_default.ensures)
       (step.Make c.args.self.now.client, made_it _ _ c.args.self.now.client _ _ c.in_ok-_reply-in_default.ensures);
   no_step = tt;
 }
