@@ -46,13 +46,17 @@ lockable_kind t kind.Conn i routed within = lt-ltb i (count_of t kind.Conn) with
 lockable_kind t kind.Enc i routed within = absurd (routed refl)
 
 lockable_in : (t : Topology) (k : Kind) (i : ℕ) → k ≢ kind.Enc → i < count_of t k → IsIn (object_id k i) (lockable t)
-lockable_in t kind.Crtc i routed within = in_left (ids_of t kind.Crtc) (ids_of t kind.Plane ++ ids_of t kind.Conn) _ (ids-has t kind.Crtc i within)
-lockable_in t kind.Plane i routed within = in_right (ids_of t kind.Crtc) (ids_of t kind.Plane ++ ids_of t kind.Conn) _ (in_left (ids_of t kind.Plane) (ids_of t kind.Conn) _ (ids-has t kind.Plane i within))
-lockable_in t kind.Conn i routed within = in_right (ids_of t kind.Crtc) (ids_of t kind.Plane ++ ids_of t kind.Conn) _ (in_right (ids_of t kind.Plane) (ids_of t kind.Conn) _ (ids-has t kind.Conn i within))
+lockable_in t kind.Crtc i routed within = in_left (ids_of t kind.Crtc) (ids_of t kind.Plane ++ ids_of t kind.Conn) _
+    (ids-has t kind.Crtc i within)
+lockable_in t kind.Plane i routed within = in_right (ids_of t kind.Crtc) (ids_of t kind.Plane ++ ids_of t kind.Conn) _
+    (in_left (ids_of t kind.Plane) (ids_of t kind.Conn) _ (ids-has t kind.Plane i within))
+lockable_in t kind.Conn i routed within = in_right (ids_of t kind.Crtc) (ids_of t kind.Plane ++ ids_of t kind.Conn) _
+    (in_right (ids_of t kind.Plane) (ids_of t kind.Conn) _ (ids-has t kind.Conn i within))
 lockable_in t kind.Enc i routed within = absurd (routed refl)
 
 -- the object of a kind with an index
-asked_object : (t : Topology) (w : World) (r : Request) (d : Duplicates) (k : Kind) (i : ℕ) → IsDevice t → k ≢ kind.Enc → (i < count_of t k) × (touches_of_kind k t w r (object_id k i) ≡ true) → is_kind_duplicated k d i ≡ false → IsAsked t w r d (object_id k i)
+asked_object : (t : Topology) (w : World) (r : Request) (d : Duplicates) (k : Kind) (i : ℕ) → IsDevice t → k ≢ kind.Enc → (i < count_of t k)
+    × (touches_of_kind k t w r (object_id k i) ≡ true) → is_kind_duplicated k d i ≡ false → IsAsked t w r d (object_id k i)
 unfolding touches
 asked_object t w r d k i device routed touched absent =
     let few : count_of t k ≤ 16 = few_of t k (few_objects t device) in
@@ -62,30 +66,38 @@ asked_object t w r d k i device routed touched absent =
     record {
       touched = ap (λ j. touches_of_kind j t w r (object_id k i)) is_kind ∙ touched.1;
       is_id = subst (λ j. first_id j ≤ object_id k i) (sym is_kind) (omega arith);
-      can_lock = ap (λ j. is_lockable t j (index_of (object_id k i))) is_kind ∙ ap (is_lockable t k) is_index ∙ lockable_kind t k i routed touched.0;
+      can_lock = ap (λ j. is_lockable t j (index_of (object_id k i))) is_kind ∙ ap (is_lockable t k) is_index ∙ lockable_kind t k i routed
+          touched.0;
       is_in = lockable_in t k i routed touched.0;
       absent = is_duplicated-object k d i small ∙ absent;
     }
 
 -- the object at a place of a set that is lacking
-asked_at : (t : Topology) (w : World) (r : Request) (d : Duplicates) (m : Mask) (p : ℕ) → IsDevice t → IsLacking t w r d m → p < 28 → mask_has m p ≡ true → IsAsked t w r d (object_at_place p)
+asked_at : (t : Topology) (w : World) (r : Request) (d : Duplicates) (m : Mask) (p : ℕ) → IsDevice t → IsLacking t w r d m → p < 28
+    → mask_has m p ≡ true → IsAsked t w r d (object_at_place p)
 asked_at t w r d m p device lacks place has =
     elim (cases_lt p 4) [
       | inl crtc ↦ (
-          let o = missing lacks.group.crtcs d.crtcs p (ap (λ (x : Mask). has_bit x.crtcs p) (sym lacks.is) ∙ (rw (lt-ltb p 4 crtc) at has)) in
+          let o = missing lacks.group.crtcs d.crtcs p (ap (λ (x : Mask). has_bit x.crtcs p) (sym lacks.is) ∙ (rw (lt-ltb p 4 crtc) at has))
+          in
           rw (lt-ltb p 4 crtc) (asked_object t w r d kind.Crtc p device (λ e. cc) (lacks.touched.crtcs p o.0) (none_not_some _ o.1)))
       | inr other ↦ elim (cases_lt p 20) [
         | inl plane ↦ (
-            let o = missing lacks.group.planes d.planes (p - 4) (ap (λ (x : Mask). has_bit x.planes (p - 4)) (sym lacks.is) ∙ (rw (le-ltb p 4 other, lt-ltb p 20 plane) at has)) in
-            rw (le-ltb p 4 other, lt-ltb p 20 plane) (asked_object t w r d kind.Plane (p - 4) device (λ e. cc) (lacks.touched.planes (p - 4) o.0) (none_not_some _ o.1)))
+            let o = missing lacks.group.planes d.planes (p - 4)
+            (ap (λ (x : Mask). has_bit x.planes (p - 4)) (sym lacks.is) ∙ (rw (le-ltb p 4 other, lt-ltb p 20 plane) at has)) in
+            rw (le-ltb p 4 other, lt-ltb p 20 plane) (asked_object t w r d kind.Plane (p - 4) device (λ e. cc)
+            (lacks.touched.planes (p - 4) o.0) (none_not_some _ o.1)))
         | inr conn ↦ (
-            let o = missing lacks.group.conns d.conns (p - 20) (ap (λ (x : Mask). has_bit x.conns (p - 20)) (sym lacks.is) ∙ (rw (le-ltb p 4 other, le-ltb p 20 conn) at has)) in
-            rw (le-ltb p 4 other, le-ltb p 20 conn) (asked_object t w r d kind.Conn (p - 20) device (λ e. cc) (lacks.touched.conns (p - 20) o.0) (none_not_some _ o.1)))
+            let o = missing lacks.group.conns d.conns (p - 20)
+            (ap (λ (x : Mask). has_bit x.conns (p - 20)) (sym lacks.is) ∙ (rw (le-ltb p 4 other, le-ltb p 20 conn) at has)) in
+            rw (le-ltb p 4 other, le-ltb p 20 conn) (asked_object t w r d kind.Conn (p - 20) device (λ e. cc)
+            (lacks.touched.conns (p - 20) o.0) (none_not_some _ o.1)))
       ]
     ]
 
 -- the least object that is lacking
-pub asked-touches : (t : Topology) (w : World) (r : Request) (d : Duplicates) (id : ℕ) → IsDevice t → least_lacking t w r d ≡ Some id → IsAsked t w r d id
+pub asked-touches : (t : Topology) (w : World) (r : Request) (d : Duplicates) (id : ℕ) → IsDevice t → least_lacking t w r d ≡ Some id
+    → IsAsked t w r d id
 asked-touches t w r d id device least = go (first_lacking t w r d) refl least
   where
     go : (first : Option Mask) → first_lacking t w r d ≡ first → option_and_then least_of first ≡ Some id → IsAsked t w r d id

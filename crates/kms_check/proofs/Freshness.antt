@@ -1,5 +1,6 @@
 -- Duplicates to which present states are added: each new state stays the old one.
-use Rattle.std.proofs.Common.{◌≡◌, ℕ, zero, suc, ◌-◌, ◌<◌, List, length, set, replicate, Some, None, slice_get, inl, inr, arith, refl, sym, ap, ◌∙◌}
+use Rattle.std.proofs.Common.{◌≡◌, ℕ, zero, suc, ◌-◌, ◌<◌, List, length, set, replicate, Some, None, slice_get, inl, inr, arith, refl, sym}
+use Rattle.std.proofs.Common.{ap, ◌∙◌}
 use Rattle.std.specs.Prelude.{Option}
 use Rattle.std.proofs.Math.ListN.{length-set}
 use Rattle.std.proofs.lemmas.Bool.{cases_eq}
@@ -22,7 +23,8 @@ set_fresh {S} states i s fresh index both at = elim (cases_eq index i) [
   | inl same ↦ (
       let within : index < length (set states i (Some (alike s))) = slice_get_within (set states i (Some (alike s))) index (Some both) at in
       let inside : i < length states = omega (arith, within, length-set states i (Some (alike s)), same) in
-      let there : Some (Some (alike s)) ≡ Some (Some both) = sym (slice_get-set_same states i (Some (alike s)) inside) ∙ ap (slice_get (set states i (Some (alike s)))) (sym same) ∙ at in
+      let there : Some (Some (alike s)) ≡ Some (Some both) = sym (slice_get-set_same states i (Some (alike s)) inside) ∙ ap
+      (slice_get (set states i (Some (alike s)))) (sym same) ∙ at in
       let is : alike s ≡ both = same_Some (alike s) both (same_Some (Some (alike s)) (Some both) there) in
       sym (ap (λ (b : Both S). b.new) is) ∙ ap (λ (b : Both S). b.old) is)
   | inr other ↦ fresh index both (sym (slice_get-set_other states i index (Some (alike s)) other) ∙ at)
@@ -30,9 +32,23 @@ set_fresh {S} states i s fresh index both at = elim (cases_eq index i) [
 
 -- fresh duplicates are fresh after one more state is duplicated
 pub fresh-duplicated : (d : Duplicates) (id : ℕ) (s : ObjState) → AreFresh d → AreFresh (duplicated d id s)
-fresh-duplicated d id (state.Crtc s) fresh = record { crtcs = set_fresh d.crtcs (id - first_id Crtc) s fresh.crtcs; planes = fresh.planes; conns = fresh.conns }
-fresh-duplicated d id (state.Plane s) fresh = record { crtcs = fresh.crtcs; planes = set_fresh d.planes (id - first_id Plane) s fresh.planes; conns = fresh.conns }
-fresh-duplicated d id (state.Conn s) fresh = record { crtcs = fresh.crtcs; planes = fresh.planes; conns = set_fresh d.conns (id - first_id Conn) s fresh.conns }
+fresh-duplicated d id (state.Crtc s) fresh = record {
+  crtcs = set_fresh d.crtcs (id - first_id Crtc) s fresh.crtcs;
+  planes = fresh.planes;
+  conns = fresh.conns;
+}
+fresh-duplicated d id (state.Plane s) fresh = record {
+  crtcs = fresh.crtcs;
+  planes = set_fresh d.planes (id - first_id Plane) s
+      fresh.planes;
+  conns = fresh.conns;
+}
+fresh-duplicated d id (state.Conn s) fresh = record {
+  crtcs = fresh.crtcs;
+  planes = fresh.planes;
+  conns = set_fresh d.conns
+      (id - first_id Conn) s fresh.conns;
+}
 
 none_fresh : {S : Type 0} (n : ℕ) → AreFreshIn {S = S} (replicate n None)
 none_fresh zero index both at = absurd cc
@@ -45,9 +61,24 @@ fresh-none = record { crtcs = none_fresh 4; planes = none_fresh 16; conns = none
 
 -- the places stay
 pub room-duplicated : (d : Duplicates) (id : ℕ) (s : ObjState) → HasRoom d → HasRoom (duplicated d id s)
-room-duplicated d id (state.Crtc s) room = record { crtcs = length-set d.crtcs (id - first_id Crtc) (Some (alike s)) ∙ room.crtcs; planes = room.planes; conns = room.conns }
-room-duplicated d id (state.Plane s) room = record { crtcs = room.crtcs; planes = length-set d.planes (id - first_id Plane) (Some (alike s)) ∙ room.planes; conns = room.conns }
-room-duplicated d id (state.Conn s) room = record { crtcs = room.crtcs; planes = room.planes; conns = length-set d.conns (id - first_id Conn) (Some (alike s)) ∙ room.conns }
+room-duplicated d id (state.Crtc s) room = record {
+  crtcs = length-set d.crtcs (id - first_id Crtc) (Some (alike s)) ∙ room.crtcs;
+  planes =
+      room.planes;
+  conns = room.conns;
+}
+room-duplicated d id (state.Plane s) room = record {
+  crtcs = room.crtcs;
+  planes = length-set d.planes (id - first_id Plane) (Some (alike s))
+      ∙ room.planes;
+  conns = room.conns;
+}
+room-duplicated d id (state.Conn s) room = record {
+  crtcs = room.crtcs;
+  planes = room.planes;
+  conns = length-set d.conns
+      (id - first_id Conn) (Some (alike s)) ∙ room.conns;
+}
 
 pub room-none : HasRoom none_duplicated
 room-none = record { crtcs = refl; planes = refl; conns = refl }

@@ -1,5 +1,6 @@
 -- The objects of a set by their places, and of the groups of a request.
-use Rattle.std.proofs.Common.{◌≡◌, ℕ, zero, suc, ◌+◌, ◌-◌, ◌<◌, Bool, true, false, List, length, Option, Some, None, inl, inr, arith, refl, sym, ap, ◌∙◌}
+use Rattle.std.proofs.Common.{◌≡◌, ℕ, zero, suc, ◌+◌, ◌-◌, ◌<◌, Bool, true, false, List, length, Option, Some, None, inl, inr, arith, refl}
+use Rattle.std.proofs.Common.{sym, ap, ◌∙◌}
 use Rattle.std.specs.Prelude.{◌&&◌, ◌==◌, is_none, nat_lt, if◌then◌else◌}
 use Rattle.std.proofs.lemmas.Bool.{and_from, and_parts, both_ways, cases_lt, eq-eqb, le-ltb, lt-ltb, ltb-true, or_left, or_right}
 use Rattle.std.proofs.lemmas.Nat.{pow_pos}
@@ -42,7 +43,8 @@ unfolding first_below
 place_of f zero x first = absurd cc
 place_of {A} f (suc n) x first = go (first_below f n) refl (place_of f n x) first
   where
-    go : (before : Option A) → first_below f n ≡ before → (first_below f n ≡ Some x → IsPlace f n x) → or_else before (f n) ≡ Some x → IsPlace f (suc n) x
+    go : (before : Option A) → first_below f n ≡ before → (first_below f n ≡ Some x → IsPlace f n x) → or_else before (f n) ≡ Some x
+        → IsPlace f (suc n) x
     go None is earlier here = record { place = n; within = omega arith; gives = here }
     go (Some y) is earlier there =
         let found : IsPlace f n x = earlier (is ∙ there) in
@@ -60,8 +62,14 @@ least-member m id least =
     let at : IsPlace (member_at m) 28 id = place_of (member_at m) 28 id least in
     go at (mask_has m at.place) refl at.gives
   where
-    go : (at : IsPlace (member_at m) 28 id) (b : Bool) → mask_has m at.place ≡ b → (if b then Some (object_at_place at.place) else None) ≡ Some id → HasLeast m id
-    go at true has is = record { place = at.place; within = at.within; member = has; same = sym (same_Some (object_at_place at.place) id is) }
+    go : (at : IsPlace (member_at m) 28 id) (b : Bool) → mask_has m at.place ≡ b → (if b then Some (object_at_place at.place) else None)
+        ≡ Some id → HasLeast m id
+    go at true has is = record {
+      place = at.place;
+      within = at.within;
+      member = has;
+      same = sym (same_Some (object_at_place at.place) id is);
+    }
     go at false has is = absurd cc
 
 -- the object at a place, of a set that has it, and of one that does not
@@ -75,14 +83,19 @@ member-not m p has = ap (λ b. if b then Some (object_at_place p) else None) has
 
 -- each object of a set is one of the device, which a request touches
 pub record AreTouched (t : Topology) (w : World) (r : Request) (m : Mask) : Type 0 where
-  pub crtcs : (i : ℕ) → has_bit m.crtcs i ≡ true → (i < count_of t kind.Crtc) × (touches_of_kind kind.Crtc t w r (object_id kind.Crtc i) ≡ true)
-  pub planes : (i : ℕ) → has_bit m.planes i ≡ true → (i < count_of t kind.Plane) × (touches_of_kind kind.Plane t w r (object_id kind.Plane i) ≡ true)
-  pub conns : (i : ℕ) → has_bit m.conns i ≡ true → (i < count_of t kind.Conn) × (touches_of_kind kind.Conn t w r (object_id kind.Conn i) ≡ true)
+  pub crtcs : (i : ℕ) → has_bit m.crtcs i ≡ true → (i < count_of t kind.Crtc)
+      × (touches_of_kind kind.Crtc t w r (object_id kind.Crtc i) ≡ true)
+  pub planes : (i : ℕ) → has_bit m.planes i ≡ true → (i < count_of t kind.Plane)
+      × (touches_of_kind kind.Plane t w r (object_id kind.Plane i) ≡ true)
+  pub conns : (i : ℕ) → has_bit m.conns i ≡ true → (i < count_of t kind.Conn)
+      × (touches_of_kind kind.Conn t w r (object_id kind.Conn i) ≡ true)
 
 -- an object of a set of those that pass a test
-in_where : (t : Topology) (k : Kind) (test : ℕ → Bool) (i : ℕ) → has_bit (set_where t k test) i ≡ true → (i < count_of t k) × (test (object_id k i) ≡ true)
+in_where : (t : Topology) (k : Kind) (test : ℕ → Bool) (i : ℕ) → has_bit (set_where t k test) i ≡ true → (i < count_of t k)
+    × (test (object_id k i) ≡ true)
 in_where t k test i has =
-    let parts = and_parts (nat_lt i (count_of t k)) (test (object_id k i)) (sym (has_bit-mask_below (λ j. test (object_id k j)) (count_of t k) i) ∙ has) in
+    let parts = and_parts (nat_lt i (count_of t k)) (test (object_id k i))
+    (sym (has_bit-mask_below (λ j. test (object_id k j)) (count_of t k) i) ∙ has) in
     (ltb-true i (count_of t k) parts.0, parts.1)
 
 in_none : {A : Type 0} (i : ℕ) → has_bit 0 i ≡ true → A
@@ -128,10 +141,12 @@ pub record IsLacking (t : Topology) (w : World) (r : Request) (d : Duplicates) (
   pub is : m ≡ not_duplicated d group
   pub has_some : is_empty (not_duplicated d group) ≡ false
 
-of_group : (t : Topology) (w : World) (r : Request) (d : Duplicates) (g m : Mask) → AreTouched t w r g → IsLackingOf d g m → IsLacking t w r d m
+of_group : (t : Topology) (w : World) (r : Request) (d : Duplicates) (g m : Mask) → AreTouched t w r g → IsLackingOf d g m
+    → IsLacking t w r d m
 of_group t w r d g m touched lacks = record { group = g; touched = touched; is = lacks.is; has_some = lacks.has_some }
 
-pub first_lacking-is : (t : Topology) (w : World) (r : Request) (d : Duplicates) (m : Mask) → first_lacking t w r d ≡ Some m → IsLacking t w r d m
+pub first_lacking-is : (t : Topology) (w : World) (r : Request) (d : Duplicates) (m : Mask) → first_lacking t w r d ≡ Some m
+    → IsLacking t w r d m
 first_lacking-is t w r d m first =
     elim (or_else-some (lacking d (set_group t r)) _ m first) [
       | inl is ↦ of_group t w r d (set_group t r) m (set_touched t w r) (lacking-is d (set_group t r) m is)
@@ -142,9 +157,11 @@ first_lacking-is t w r d m first =
     ]
 
 -- an object that is lacking is in the set, and is not duplicated
-pub missing : {S : Type 0} (mask : ℕ) (states : List (Option (Both S))) (i : ℕ) → has_bit (missing_in mask states (length states)) i ≡ true → (has_bit mask i ≡ true) × (is_none (state_at states i) ≡ true)
+pub missing : {S : Type 0} (mask : ℕ) (states : List (Option (Both S))) (i : ℕ) → has_bit (missing_in mask states (length states)) i ≡ true
+    → (has_bit mask i ≡ true) × (is_none (state_at states i) ≡ true)
 missing mask states i has =
-    let parts = and_parts (nat_lt i (length states)) (has_bit mask i && is_none (state_at states i)) (sym (has_bit-mask_below (λ j. has_bit mask j && is_none (state_at states j)) (length states) i) ∙ has) in
+    let parts = and_parts (nat_lt i (length states)) (has_bit mask i && is_none (state_at states i))
+    (sym (has_bit-mask_below (λ j. has_bit mask j && is_none (state_at states j)) (length states) i) ∙ has) in
     and_parts (has_bit mask i) (is_none (state_at states i)) parts.1
 
 -- Something is lacking
@@ -154,7 +171,11 @@ unfolding first_below
 none_at f zero p none within = absurd (omega arith)
 none_at f (suc n) p none within =
     let both = or_else-none (first_below f n) (f n) none in
-    elim (cases_lt p n) [ inl less ↦ none_at f n p both.first_none less | inr last ↦ (let same : p ≡ n = omega arith in ap f same ∙ both.second_none) ]
+    elim (cases_lt p n) [
+      | inl less ↦ none_at f n p both.first_none less
+      | inr last ↦
+          (let same : p ≡ n = omega arith in ap f same ∙ both.second_none)
+    ]
 
 -- a set that has no object at any place
 not_member : (m : Mask) (p : ℕ) → least_of m ≡ None → p < 28 → mask_has m p ≡ false
@@ -165,7 +186,8 @@ not_member m p none place = go (mask_has m p) (none_at (member_at m) 28 p none p
     go false e = refl
 
 no_bits : (test : ℕ → Bool) (n : ℕ) → ((i : ℕ) → i < n → has_bit (mask_below test n) i ≡ false) → mask_below test n ≡ 0
-no_bits test n none = sym (mask_from 0 test n (pow_pos n) (λ i within. has_bit-zero i ∙ sym (none i within) ∙ has_bit-below test n i within))
+no_bits test n none = sym (mask_from 0 test n (pow_pos n)
+    (λ i within. has_bit-zero i ∙ sym (none i within) ∙ has_bit-below test n i within))
 
 -- a set of what is not duplicated that has no object is empty
 empty-set : (d : Duplicates) (g : Mask) → HasRoom d → least_of (not_duplicated d g) ≡ None → is_empty (not_duplicated d g) ≡ true
@@ -187,7 +209,8 @@ empty-set d g room none =
     and_from (m.crtcs == 0) _ (eq-eqb m.crtcs 0 crtcs) (and_from (m.planes == 0) _ (eq-eqb m.planes 0 planes) (eq-eqb m.conns 0 conns))
 
 -- what is asked for is never an empty set
-pub asks-some : {A : Type 0} (t : Topology) (w : World) (r : Request) (d : Duplicates) (m : Mask) → HasRoom d → first_lacking t w r d ≡ Some m → least_of m ≡ None → A
+pub asks-some : {A : Type 0} (t : Topology) (w : World) (r : Request) (d : Duplicates) (m : Mask) → HasRoom d → first_lacking t w r d
+    ≡ Some m → least_of m ≡ None → A
 asks-some t w r d m room first none =
     let lacks : IsLacking t w r d m = first_lacking-is t w r d m first in
     absurd (both_ways _ lacks.has_some (empty-set d lacks.group room (ap least_of (sym lacks.is) ∙ none)))

@@ -1,5 +1,6 @@
 -- What is duplicated of the groups of a request, and what that allows.
-use Rattle.std.proofs.Common.{◌≡◌, ◌≢◌, ◌∙◌, ℕ, ◌+◌, ◌-◌, ◌<◌, ◌≤◌, Bool, true, false, List, length, Option, Some, None, refl, sym, ap, subst, arith}
+use Rattle.std.proofs.Common.{◌≡◌, ◌≢◌, ◌∙◌, ℕ, ◌+◌, ◌-◌, ◌<◌, ◌≤◌, Bool, true, false, List, length, Option, Some, None, refl, sym, ap}
+use Rattle.std.proofs.Common.{subst, arith}
 use Rattle.std.specs.Prelude.{◌&&◌, ◌==◌, All, IsTrue, slice_get, is_some, is_none, if◌then◌else◌}
 use Rattle.std.specs.Option.{option_flatten}
 use Rattle.std.proofs.lemmas.Bool.{eqb-true, eq-eqb, and_parts, le-leb, ltb-true}
@@ -49,9 +50,12 @@ some_or_none : {A : Type 0} (o : Option A) → is_none o ≡ false → is_some o
 some_or_none None none = absurd cc
 some_or_none (Some x) none = refl
 
-missing-none : {S : Type 0} (mask : ℕ) (states : List (Option (Both S))) (n i : ℕ) → missing_in mask states n ≡ 0 → i < n → has_bit mask i ≡ true → is_some (state_at states i) ≡ true
+missing-none : {S : Type 0} (mask : ℕ) (states : List (Option (Both S))) (n i : ℕ) → missing_in mask states n ≡ 0 → i < n → has_bit mask i
+    ≡ true → is_some (state_at states i) ≡ true
 missing-none mask states n i none within member =
-    let out : (has_bit mask i && is_none (state_at states i)) ≡ false = sym (has_bit-below (λ index. has_bit mask index && is_none (state_at states index)) n i within) ∙ ap (λ m. has_bit m i) none ∙ has_bit-zero i in
+    let out : (has_bit mask i && is_none (state_at states i))
+    ≡ false = sym (has_bit-below (λ index. has_bit mask index && is_none (state_at states index)) n i within) ∙ ap (λ m. has_bit m i)
+    none ∙ has_bit-zero i in
     some_or_none (state_at states i) (ap (λ b. b && is_none (state_at states i)) (sym member) ∙ out)
 
 -- the objects of a set are all duplicated
@@ -69,9 +73,12 @@ covered d m none = go (is_empty (not_duplicated d m)) refl none
         let crtcs = and_parts ((not_duplicated d m).crtcs == 0) _ empty in
         let rest = and_parts ((not_duplicated d m).planes == 0) ((not_duplicated d m).conns == 0) crtcs.1 in
         record {
-          crtcs = λ i within member. missing-none m.crtcs d.crtcs (length d.crtcs) i (eqb-true (not_duplicated d m).crtcs 0 crtcs.0) within member;
-          planes = λ i within member. missing-none m.planes d.planes (length d.planes) i (eqb-true (not_duplicated d m).planes 0 rest.0) within member;
-          conns = λ i within member. missing-none m.conns d.conns (length d.conns) i (eqb-true (not_duplicated d m).conns 0 rest.1) within member;
+          crtcs = λ i within member. missing-none m.crtcs d.crtcs (length d.crtcs) i (eqb-true (not_duplicated d m).crtcs 0 crtcs.0) within
+              member;
+          planes = λ i within member. missing-none m.planes d.planes (length d.planes) i (eqb-true (not_duplicated d m).planes 0 rest.0)
+              within member;
+          conns = λ i within member. missing-none m.conns d.conns (length d.conns) i (eqb-true (not_duplicated d m).conns 0 rest.1) within
+              member;
         }
 
 -- duplicates have room for every object of a device
@@ -103,14 +110,19 @@ is_duplicated-object k d i few = ap (λ j. is_duplicated_of j d (object_id k i))
     by_kind kind.Conn = ap is_some (state_of-object kind.Conn d.conns i)
     by_kind kind.Enc = refl
 
-group_has : (t : Topology) (r : Request) (k : Kind) (i : ℕ) → i < count_of t k → sets r.assigns (object_id k i) ≡ true → has_bit (set_where t k (sets r.assigns)) i ≡ true
+group_has : (t : Topology) (r : Request) (k : Kind) (i : ℕ) → i < count_of t k → sets r.assigns (object_id k i) ≡ true
+    → has_bit (set_where t k (sets r.assigns)) i ≡ true
 group_has t r k i within set = has_bit-below (λ j. sets r.assigns (object_id k j)) (count_of t k) i within ∙ set
 
 -- an object of a device that is set is duplicated, where the objects that are set are covered
-pub set_duplicated : (t : Topology) (r : Request) (d : Duplicates) (k : Kind) (i : ℕ) → IsCovered d (set_group t r) → HasRoom d → IsTrue (keeps_limits t) → i < count_of t k → k ≢ kind.Enc → sets r.assigns (object_id k i) ≡ true → is_kind_duplicated k d i ≡ true
-set_duplicated t r d kind.Crtc i covers room limits within routed set = let few = has_few t limits in covers.crtcs i (omega (arith, room.crtcs, few.crtcs)) (group_has t r kind.Crtc i within set)
-set_duplicated t r d kind.Plane i covers room limits within routed set = let few = has_few t limits in covers.planes i (omega (arith, room.planes, few.planes)) (group_has t r kind.Plane i within set)
-set_duplicated t r d kind.Conn i covers room limits within routed set = let few = has_few t limits in covers.conns i (omega (arith, room.conns, few.conns)) (group_has t r kind.Conn i within set)
+pub set_duplicated : (t : Topology) (r : Request) (d : Duplicates) (k : Kind) (i : ℕ) → IsCovered d (set_group t r) → HasRoom d
+    → IsTrue (keeps_limits t) → i < count_of t k → k ≢ kind.Enc → sets r.assigns (object_id k i) ≡ true → is_kind_duplicated k d i ≡ true
+set_duplicated t r d kind.Crtc i covers room limits within routed set = let few = has_few t limits
+    in covers.crtcs i (omega (arith, room.crtcs, few.crtcs)) (group_has t r kind.Crtc i within set)
+set_duplicated t r d kind.Plane i covers room limits within routed set = let few = has_few t limits
+    in covers.planes i (omega (arith, room.planes, few.planes)) (group_has t r kind.Plane i within set)
+set_duplicated t r d kind.Conn i covers room limits within routed set = let few = has_few t limits
+    in covers.conns i (omega (arith, room.conns, few.conns)) (group_has t r kind.Conn i within set)
 set_duplicated t r d kind.Enc i covers room limits within routed set = absurd (routed refl)
 
 -- Each set is ready
@@ -134,7 +146,8 @@ pub record IsSetObject (t : Topology) (d : Duplicates) (s : Set) : Type 0 where
   pub routed : of_kind ≢ kind.Enc
   pub duplicated : is_kind_duplicated of_kind d index ≡ true
 
-pub set_object : (t : Topology) (f : ℕ → Look) (r : Request) (resolved : Resolved) (d : Duplicates) (s : Set) → IsDevice t → IsResolved t f r resolved → HasRoom d → IsCovered d (set_group t r) → IsIn s resolved.sets → IsSetObject t d s
+pub set_object : (t : Topology) (f : ℕ → Look) (r : Request) (resolved : Resolved) (d : Duplicates) (s : Set) → IsDevice t
+    → IsResolved t f r resolved → HasRoom d → IsCovered d (set_group t r) → IsIn s resolved.sets → IsSetObject t d s
 set_object t f r resolved d s device asks room covers member =
     let from : IsFromAssign t f r s = from_assign t f r s asks.accepted (subst (IsIn s) asks.sets member) in
     let a = from.assign in
@@ -142,7 +155,9 @@ set_object t f r resolved d s device asks room covers member =
     let small : count_of t a.kind ≤ 16 = few_of t a.kind (few_objects t device) in
     let placed = allowed_settable t f a (limits_of t device) from.allowed in
     let routed = not_encoder a.kind a.index placed.place in
-    let set : sets r.assigns (object_id a.kind a.index) ≡ true = items.list_any-has (λ b. object_of b == object_id a.kind a.index) r.assigns a from.is_in (eq-eqb (object_of a) (object_id a.kind a.index) refl) in
+    let set : sets r.assigns (object_id a.kind a.index)
+    ≡ true = items.list_any-has (λ b. object_of b == object_id a.kind a.index) r.assigns a from.is_in
+    (eq-eqb (object_of a) (object_id a.kind a.index) refl) in
     record {
       of_kind = a.kind;
       index = a.index;
@@ -153,7 +168,8 @@ set_object t f r resolved d s device asks room covers member =
       duplicated = set_duplicated t r d a.kind a.index covers room (limits_of t device) within routed set;
     }
 
-pub ready : (t : Topology) (f : ℕ → Look) (r : Request) (resolved : Resolved) (d : Duplicates) → IsDevice t → IsResolved t f r resolved → HasRoom d → IsCovered d (set_group t r) → All (IsApplicable d) resolved.sets
+pub ready : (t : Topology) (f : ℕ → Look) (r : Request) (resolved : Resolved) (d : Duplicates) → IsDevice t → IsResolved t f r resolved
+    → HasRoom d → IsCovered d (set_group t r) → All (IsApplicable d) resolved.sets
 ready t f r resolved d device asks room covers = all_in-from (IsApplicable d) resolved.sets (λ s member.
     let o : IsSetObject t d s = set_object t f r resolved d s device asks room covers member in
     let from : IsFromAssign t f r s = from_assign t f r s asks.accepted (subst (IsIn s) asks.sets member) in
@@ -164,13 +180,16 @@ ready t f r resolved d device asks room covers = all_in-from (IsApplicable d) re
     let may : may_set a.kind (prop_of a.prop) (set_value f (prop_of a.prop) a.value) ≡ true = may_set-allowed t f a from.allowed in
     record {
       object = ap (is_duplicated d) o.same ∙ is_duplicated-object o.of_kind d o.index o.few ∙ o.duplicated;
-      value = subst (λ x. may_set (kind_of x.object.0) x.prop x.value ≡ true) (sym from.set) (ap (λ k. may_set k (prop_of a.prop) (set_value f (prop_of a.prop) a.value)) (kind_of-object a.kind a.index (omega arith)) ∙ may);
+      value = subst (λ x. may_set (kind_of x.object.0) x.prop x.value ≡ true) (sym from.set)
+          (ap (λ k. may_set k (prop_of a.prop) (set_value f (prop_of a.prop) a.value)) (kind_of-object a.kind a.index (omega arith)) ∙ may);
     })
 
 -- What the CRTCs that a request names are read from
 
-naming-object : (d : Duplicates) (k : Kind) (i : ℕ) → i < 16 → (k ≡ kind.Conn → i < 8) → is_kind_duplicated k d i ≡ true → naming.is_routed_duplicated d (object_id k i) ≡ true
-naming-object d kind.Crtc i few conns there = rw (beneath kind.Plane (100 + i) (omega arith), beneath kind.Conn (100 + i) (omega arith)) refl
+naming-object : (d : Duplicates) (k : Kind) (i : ℕ) → i < 16 → (k ≡ kind.Conn → i < 8) → is_kind_duplicated k d i ≡ true
+    → naming.is_routed_duplicated d (object_id k i) ≡ true
+naming-object d kind.Crtc i few conns there = rw (beneath kind.Plane (100 + i) (omega arith), beneath kind.Conn (100 + i) (omega arith))
+    refl
 naming-object d kind.Plane i few conns there =
     let index : index_of (200 + i) ≡ i = index_of-object kind.Plane i (omega arith) in
     rw (inside kind.Plane (200 + i) (omega arith) (omega arith), index) there
@@ -186,7 +205,8 @@ few_conns t k i device within same =
     let below : i < count_of t kind.Conn = subst (λ j. i < count_of t j) same within in
     omega (arith, few.conns)
 
-pub named-covers : (t : Topology) (w : World) (r : Request) (resolved : Resolved) (d : Duplicates) → IsOfRequest t w r resolved d → HasRoom d → IsCovered d (set_group t r) → naming.Covers t w (look_up w) r resolved d
+pub named-covers : (t : Topology) (w : World) (r : Request) (resolved : Resolved) (d : Duplicates) → IsOfRequest t w r resolved d
+    → HasRoom d → IsCovered d (set_group t r) → naming.Covers t w (look_up w) r resolved d
 named-covers t w r resolved d is room covers = record {
   limits = limits_of t is.device;
   sound = is.sound;
@@ -194,5 +214,6 @@ named-covers t w r resolved d is room covers = record {
   old = is.old;
   duplicated = all_in-from (λ s. IsTrue (naming.is_routed_duplicated d s.object.0)) resolved.sets (λ s member.
       let o : IsSetObject t d s = set_object t (look_up w) r resolved d s is.device is.asks room covers member in
-      ap (naming.is_routed_duplicated d) o.same ∙ naming-object d o.of_kind o.index o.few (few_conns t o.of_kind o.index is.device o.within) o.duplicated);
+      ap (naming.is_routed_duplicated d) o.same ∙ naming-object d o.of_kind o.index o.few (few_conns t o.of_kind o.index is.device o.within)
+      o.duplicated);
 }

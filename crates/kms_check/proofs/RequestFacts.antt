@@ -19,14 +19,16 @@ use Rattle.kms_model.specs.Request.Deciding.{AreFresh, AreFreshIn, IsOfRequest}
 use Rattle.kms_request.proofs.SetGroups.{allowed-each}
 
 -- the request, in the world
-pub request_at : (t : Topology) (w : World) (r : Request) (resolved : Resolved) (d : Duplicates) → IsOfRequest t w r resolved d → IsRequestAt t w r
+pub request_at : (t : Topology) (w : World) (r : Request) (resolved : Resolved) (d : Duplicates) → IsOfRequest t w r resolved d
+    → IsRequestAt t w r
 request_at t w r resolved d is = record { device = is.device; sound = is.sound; early = is.asks.accepted }
 
 -- fresh states agree with the values before
 pub fresh_new : {S : Type 0} (f : ℕ → S) (states : List (Option (Both S))) → AreFreshIn states → AreOld f states → AreNew f states
 fresh_new f states fresh old = λ index both at. fresh index both at ∙ old index both at
 
-pub fresh-agrees : (t : Topology) (w : World) (r : Request) (resolved : Resolved) (d : Duplicates) → IsOfRequest t w r resolved d → AreFresh d → AgreesNew t w.things w.values d
+pub fresh-agrees : (t : Topology) (w : World) (r : Request) (resolved : Resolved) (d : Duplicates) → IsOfRequest t w r resolved d
+    → AreFresh d → AgreesNew t w.things w.values d
 fresh-agrees t w r resolved d is fresh = record {
   crtcs = fresh_new _ d.crtcs fresh.crtcs is.old.crtcs;
   planes = fresh_new _ d.planes fresh.planes is.old.planes;
@@ -48,7 +50,15 @@ pub record IsFromAssign (t : Topology) (f : ℕ → Look) (r : Request) (s : Set
   pub last : IsLast f r.assigns assign
   pub allowed : IsAllowed t f assign
 
-pub from_assign : (t : Topology) (f : ℕ → Look) (r : Request) (s : Set) → early_refusal t f r ≡ None → IsIn s (last_sets f r.assigns) → IsFromAssign t f r s
+pub from_assign : (t : Topology) (f : ℕ → Look) (r : Request) (s : Set) → early_refusal t f r ≡ None → IsIn s (last_sets f r.assigns)
+    → IsFromAssign t f r s
 from_assign t f r s accepted is =
     let from : FromLast f r.assigns s = from_last f r.assigns s is in
-    record { assign = from.item; is_in = from.is.member; set = from.set; last = from.is; allowed = allowed-each t f r from.item accepted from.is.member }
+    record {
+      assign = from.item;
+      is_in = from.is.member;
+      set = from.set;
+      last = from.is;
+      allowed = allowed-each t f r from.item accepted
+          from.is.member;
+    }

@@ -20,7 +20,11 @@ missing_in mask states n =
     mask_below (λ index. has_bit mask index && is_none (state_at states index)) n
 
 abbrev pub not_duplicated : Duplicates → Mask → Mask
-not_duplicated d m = record { crtcs = missing_in m.crtcs d.crtcs (length d.crtcs); planes = missing_in m.planes d.planes (length d.planes); conns = missing_in m.conns d.conns (length d.conns) }
+not_duplicated d m = record {
+  crtcs = missing_in m.crtcs d.crtcs (length d.crtcs);
+  planes = missing_in m.planes d.planes (length d.planes);
+  conns = missing_in m.conns d.conns (length d.conns);
+}
 
 -- those of a set that are not duplicated, if there are any
 abbrev pub lacking : Duplicates → Mask → Option Mask

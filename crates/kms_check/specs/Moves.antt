@@ -66,7 +66,8 @@ abbrev pub RefusedBy : Topology → Request → List (ℕ × Look) → Duplicate
 RefusedBy t r used d why = (early_refusal t (look_in used) r ≡ Some why.0) ⊎ RefusedLate t r used d why
 
 -- What was checked, as a check gives it, which refuses nothing; what the request touches is duplicated, and no old state is lost.
-pub record AcceptedAs (t : Topology) (r : Request) (used : List (ℕ × Look)) (d : Duplicates) (checked : Checked) (resolved : Resolved) : Type 0 where
+pub record AcceptedAs (t : Topology) (r : Request) (used : List (ℕ × Look)) (d : Duplicates) (checked : Checked) (resolved : Resolved) :
+    Type 0 where
   pub asks : IsResolved t (look_in used) r resolved
   pub gives : GivesChecked t r resolved d checked
   pub passes : (w : World) → IsOfRequest t w r resolved d → late_in t w r ≡ None

@@ -19,5 +19,6 @@ each_unscaled t w one sound index x y within on covered =
     let plane : ℕ = object_id Plane index in
     let s : PlaneState = plane_at w.things w.values plane in
     let none : shown_refusal 1 (mode_at w.things w.values s.crtc) s ≡ None =
-    subst (λ (profile : ℕ). shown_refusal profile (mode_at w.things w.values s.crtc) s ≡ None) one ((accepts t w sound).shown plane (ids-has t Plane index within)) in
+    subst (λ (profile : ℕ). shown_refusal profile (mode_at w.things w.values s.crtc) s ≡ None) one
+    ((accepts t w sound).shown plane (ids-has t Plane index within)) in
     shows_unscaled (mode_at w.things w.values s.crtc) s x y (sound-plane_in_range t w index sound within) on none covered

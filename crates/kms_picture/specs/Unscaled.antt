@@ -10,5 +10,6 @@ use Rattle.kms_model.specs.Frames.Unscaled.{ShowsUnscaled}
 
 -- each plane of a device that is on a CRTC shows, at each pixel of its destination, what it shows there unscaled
 abbrev pub EachShowsUnscaled : Topology → World → Type 0
-EachShowsUnscaled t w = (index x y : ℕ) → index < length t.planes → ((plane_at w.things w.values (object_id Plane index)).crtc == 0) ≡ false → covers (plane_at w.things w.values (object_id Plane index)).dst x y ≡ true
+EachShowsUnscaled t w = (index x y : ℕ) → index < length t.planes → ((plane_at w.things w.values (object_id Plane index)).crtc == 0) ≡ false
+    → covers (plane_at w.things w.values (object_id Plane index)).dst x y ≡ true
     → ShowsUnscaled (plane_at w.things w.values (object_id Plane index)) x y

@@ -1,3 +1,4 @@
 pub mod Flags
 pub mod Registers
 pub mod Rows
+pub mod Setting

@@ -3,7 +3,9 @@
 use Rattle.std.specs.Prelude.{ℕ, Bool, ◌==◌, List, [], ◌∷◌, find, Option, Some, None, is_some, option_map}
 use Rattle.kms_model.specs.declared.objects.Kind.TheVariants as kind
 use Rattle.kms_props.specs.declared.registers.Register.{Register}
-use Rattle.kms_props.specs.declared.registers.TheConstants.Register.{PLANE_CRTC, FB, FB_WIDTH, FB_HEIGHT, FB_FORMAT, X, Y, WIDTH, HEIGHT, SRC_X, SRC_Y, SRC_WIDTH, SRC_HEIGHT, ALPHA, BLEND, ZPOS, ACTIVE, CONNECTOR, MODE, GAMMA_ON, GAMMA}
+use Rattle.kms_props.specs.declared.registers.TheConstants.Register.{PLANE_CRTC, FB, FB_WIDTH, FB_HEIGHT, FB_FORMAT, X, Y, WIDTH, HEIGHT}
+use Rattle.kms_props.specs.declared.registers.TheConstants.Register.{SRC_X, SRC_Y, SRC_WIDTH, SRC_HEIGHT, ALPHA, BLEND, ZPOS, ACTIVE}
+use Rattle.kms_props.specs.declared.registers.TheConstants.Register.{CONNECTOR, MODE, GAMMA_ON, GAMMA}
 use Rattle.kms_props.specs.declared.registers.RegisterRow.{RegisterRow}
 use Rattle.kms_props.specs.declared.registers.Start.{Start}
 use Rattle.kms_props.specs.declared.registers.Start.TheVariants.{Word, Index}

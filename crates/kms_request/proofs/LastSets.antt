@@ -1,5 +1,6 @@
 -- Assignments from the last to the first: what each sets that no later one sets again.
-use Rattle.std.proofs.Common.{◌≡◌, ◌∙◌, ℕ, zero, suc, ◌-◌, ◌<◌, ◌≤◌, List, [], ◌∷◌, ◌++◌, Bool, true, false, length, get_or, drop, reverse, refl, sym, subst, arith, drop-cons, replicate, inl, inr}
+use Rattle.std.proofs.Common.{◌≡◌, ◌∙◌, ℕ, zero, suc, ◌-◌, ◌<◌, ◌≤◌, List, [], ◌∷◌, ◌++◌, Bool, true, false, length, get_or, drop, reverse}
+use Rattle.std.proofs.Common.{refl, sym, subst, arith, drop-cons, replicate, inl, inr}
 use Rattle.std.specs.Prelude.{not}
 use Rattle.std.specs.List.{list_any}
 use Rattle.std.proofs.lemmas.Bool.{not-true, not-false, cases_lt}
@@ -41,7 +42,11 @@ marks_before xs left d marks some within tell =
     subst P (sym (drop_before xs left d some within)) tell
 
 pub none_marked : (n k : ℕ) → get_or (replicate n false) k false ≡ false
-none_marked n k = elim (cases_lt k n) [ inl less ↦ get_or-replicate n k false false less | inr more ↦ get_or_past (replicate n false) k false (rw (length-replicate n false) more) ]
+none_marked n k = elim (cases_lt k n) [
+  | inl less ↦ get_or-replicate n k false false less
+  | inr more ↦ get_or_past (replicate n false) k
+      false (rw (length-replicate n false) more)
+]
 
 -- behind the last assignment
 pub sets_at_end : (f : ℕ → Look) (xs : List Assign) (sets : List Set) → sets ≡ [] → reverse sets ≡ last_sets f (drop (length xs) xs)

@@ -18,14 +18,21 @@ module _ {A : Type 0} (p : A → Bool) where
 
   pub picked_crtcs : (names : A → ℕ → Bool) (xs : List A) (mask : ℕ) → AreCrtcs (λ crtc. list_any (λ a. p a && names a crtc) xs) mask
       → AreCrtcs (λ crtc. list_any (λ a. names a crtc) (filter p xs)) mask
-  picked_crtcs names xs mask are = record { below = are.below; bits = λ index low. are.bits index low ∙ any_picked (λ a. names a (100 + index)) xs }
+  picked_crtcs names xs mask are = record {
+    below = are.below;
+    bits = λ index low. are.bits index low ∙ any_picked
+        (λ a. names a (100 + index)) xs;
+  }
 
   -- one item more
-  pub filter_more : (xs : List A) (i : ℕ) (d : A) → i < length xs → p (get_or xs i d) ≡ true → filter p (take (i + 1) xs) ≡ filter p (take i xs) ++ get_or xs i d ∷ []
+  pub filter_more : (xs : List A) (i : ℕ) (d : A) → i < length xs → p (get_or xs i d) ≡ true → filter p (take (i + 1) xs)
+      ≡ filter p (take i xs) ++ get_or xs i d ∷ []
   filter_more xs i d within is = ap (filter p) (take_more xs i d within) ∙ filter-append p (take i xs) (get_or xs i d ∷ []) ∙ rw is refl
 
-  pub filter_less : (xs : List A) (i : ℕ) (d : A) → i < length xs → p (get_or xs i d) ≡ false → filter p (take (i + 1) xs) ≡ filter p (take i xs)
-  filter_less xs i d within out = ap (filter p) (take_more xs i d within) ∙ filter-append p (take i xs) (get_or xs i d ∷ []) ∙ rw out (nil_last (filter p (take i xs)))
+  pub filter_less : (xs : List A) (i : ℕ) (d : A) → i < length xs → p (get_or xs i d) ≡ false → filter p (take (i + 1) xs)
+      ≡ filter p (take i xs)
+  filter_less xs i d within out = ap (filter p) (take_more xs i d within) ∙ filter-append p (take i xs) (get_or xs i d ∷ []) ∙ rw out
+      (nil_last (filter p (take i xs)))
     where
       nil_last : (ys : List A) → ys ++ [] ≡ ys
       nil_last [] = refl

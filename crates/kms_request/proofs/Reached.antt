@@ -27,7 +27,8 @@ use Rattle.kms_model.specs.Request.Groups.{affected_group, set_group, union}
 use Rattle.kms_model.specs.Request.Lookups.{look_up, look_up_any}
 use Rattle.kms_model.specs.Request.Named.{is_named_by, names}
 use Rattle.kms_model.specs.Request.Reach.{reaches, reaching}
-use Rattle.kms_model.specs.Request.Refusals.{assign_refusal, assigns_refusal, early_refusal, is_in_range_of, is_second_fence, is_value, names_fence, own_refusal}
+use Rattle.kms_model.specs.Request.Refusals.{assign_refusal, assigns_refusal, early_refusal, is_in_range_of, is_second_fence, is_value}
+use Rattle.kms_model.specs.Request.Refusals.{names_fence, own_refusal}
 use Rattle.kms_model.specs.Request.Resolves.{IsAllowed}
 use Rattle.kms_model.specs.Request.Touched.{is_affected, named_by, sets, touched_by, touches, touches_crtc, touches_of_kind, touches_routed}
 use Rattle.kms_model.specs.Request.Verdict.{early_in}
@@ -37,8 +38,7 @@ use Rattle.kms_model.proofs.LateLemmas.{StandAt}
 use Rattle.kms_model.proofs.MaskLemmas.{has_bit-below, same_masks}
 use Rattle.kms_model.proofs.TouchedLemmas.{IsRequestAt, few_objects, few_of}
 use Rattle.kms_laws.proofs.Opened.{agrees-open, all_open, look-open, open-reach, all_numbered-open, sound-open}
-use Rattle.kms_state.specs.Places.{old_states}
-use Rattle.kms_state.proofs.Slots.{AgreesOld-same}
+use Rattle.kms_props.specs.Setting.{AreSameDuplicated}
 use Rattle.kms_request.specs.Groups.{affected_below, objects_assigned}
 use Rattle.kms_request.specs.Naming.{AreCrtcs}
 use Rattle.kms_request.specs.Whole.{ArePresent, StandBetween, TellSame, allowed_by, is_member, is_named_between, reached_by}
@@ -49,14 +49,20 @@ use Rattle.kms_request.proofs.WholeLemmas.{named_between-is}
 
 -- What is touched by the states before and after a request
 
-pub spans-touched : (t : Topology) (w : World) (r : Request) (d : Duplicates) (named : ℕ) (touched : Mask) → StandBetween t w r d → named ≡ named_by t w r
-    → touched ≡ union (union (objects_assigned r.assigns) (record { crtcs = named; planes = 0; conns = 0 })) (affected_below d.crtcs named 4) → touched ≡ touched_by t w r
+pub spans-touched : (t : Topology) (w : World) (r : Request) (d : Duplicates) (named : ℕ) (touched : Mask) → StandBetween t w r d → named
+    ≡ named_by t w r
+    → touched ≡ union (union (objects_assigned r.assigns) (record { crtcs = named; planes = 0; conns = 0 }))
+    (affected_below d.crtcs named 4) → touched ≡ touched_by t w r
 spans-touched t w r d named touched stand named_is touched_is =
     let at : IsRequestAt t w r = record { device = stand.device; sound = stand.sound; early = stand.early } in
     let stands : StandAt t w r d = record { at = at; old = stand.old; new = stand.new } in
     let set : objects_assigned r.assigns ≡ set_group t r = objects_assigned-is t (look_up w) r stand.device stand.early in
-    let affected : affected_below d.crtcs named 4 ≡ affected_group t w r = ap (λ n. affected_below d.crtcs n 4) named_is ∙ affected-is t w r d stands (λ i there is. stand.all.crtcs i there) in
-    touched-known t w r (objects_assigned r.assigns) (record { crtcs = named; planes = 0; conns = 0 }) (union (objects_assigned r.assigns) (record { crtcs = named; planes = 0; conns = 0 })) (affected_below d.crtcs named 4) touched named
+    let affected : affected_below d.crtcs named 4
+    ≡ affected_group t w r = ap (λ n. affected_below d.crtcs n 4) named_is ∙ affected-is t w r d stands
+    (λ i there is. stand.all.crtcs i there) in
+    touched-known t w r (objects_assigned r.assigns) (record { crtcs = named; planes = 0; conns = 0 })
+    (union (objects_assigned r.assigns) (record { crtcs = named; planes = 0; conns = 0 })) (affected_below d.crtcs named 4) touched
+    named
     set named_is refl affected refl touched_is
 
 -- Assignments that name no fence: they touch the same, and none of them is a second fence
@@ -71,17 +77,21 @@ any-unfenced : (q : Assign → Bool) (xs : List Assign) → ((a : Assign) → q 
 any-unfenced q [] same = refl
 any-unfenced q (a ∷ xs) same = ap (λ b. b || list_any q (map unfenced xs)) (same a) ∙ ap (λ b. q a || b) (any-unfenced q xs same)
 
-assign-unfenced : (things : List worlds.Thing) (values : List Setting) (a : Assign) → assign things values (unfenced a) ≡ assign things values a
+assign-unfenced : (things : List worlds.Thing) (values : List Setting) (a : Assign) → assign things values (unfenced a)
+    ≡ assign things values a
 assign-unfenced things values a = elim (cases_Bool (prop_of a.prop == IN_FENCE_FD)) [
   | inl fence ↦ rw fence refl
   | inr other ↦ rw other refl
 ]
 
-apply-unfenced : (things : List worlds.Thing) (values : List Setting) (xs : List Assign) → apply things values (map unfenced xs) ≡ apply things values xs
+apply-unfenced : (things : List worlds.Thing) (values : List Setting) (xs : List Assign) → apply things values (map unfenced xs)
+    ≡ apply things values xs
 apply-unfenced things values [] = refl
-apply-unfenced things values (a ∷ xs) = ap (λ vs. apply things vs (map unfenced xs)) (assign-unfenced things values a) ∙ apply-unfenced things (assign things values a) xs
+apply-unfenced things values (a ∷ xs) = ap (λ vs. apply things vs (map unfenced xs)) (assign-unfenced things values a) ∙ apply-unfenced
+    things (assign things values a) xs
 
-value-unfenced : (t : Topology) (f : ℕ → Look) (a : Assign) → is_value t f a.prop a.value ≡ true → is_value t f a.prop (unfenced_value (prop_of a.prop) a.value) ≡ true
+value-unfenced : (t : Topology) (f : ℕ → Look) (a : Assign) → is_value t f a.prop a.value ≡ true
+    → is_value t f a.prop (unfenced_value (prop_of a.prop) a.value) ≡ true
 value-unfenced t f a is = by_prop (prop_of a.prop) is where
   by_prop : (prop : ℕ) → is_in_range_of t f a.value (property prop) ≡ true
       → is_in_range_of t f (unfenced_value prop a.value) (property prop) ≡ true
@@ -91,7 +101,13 @@ value-unfenced t f a is = by_prop (prop_of a.prop) is where
   ]
 
 allowed-unfenced : (t : Topology) (f : ℕ → Look) (a : Assign) → IsAllowed t f a → IsAllowed t f (unfenced a)
-allowed-unfenced t f a allowed = record { exists = allowed.exists; has = allowed.has; mutable = allowed.mutable; value = value-unfenced t f a allowed.value }
+allowed-unfenced t f a allowed = record {
+  exists = allowed.exists;
+  has = allowed.has;
+  mutable = allowed.mutable;
+  value = value-unfenced t f
+      a allowed.value;
+}
 
 no_fence : (o : ℕ) (a : Assign) → names_fence o (unfenced a) ≡ false
 no_fence o a = elim (cases_Bool (prop_of a.prop == IN_FENCE_FD)) [
@@ -100,14 +116,16 @@ no_fence o a = elim (cases_Bool (prop_of a.prop == IN_FENCE_FD)) [
 ]
 
 -- nothing is wrong with them together where nothing is wrong with each
-none-unfenced : (t : Topology) (f : ℕ → Look) (earlier xs : List Assign) → ((o : ℕ) → list_any (names_fence o) earlier ≡ false) → ((a : Assign) → IsIn a xs → IsAllowed t f a)
+none-unfenced : (t : Topology) (f : ℕ → Look) (earlier xs : List Assign) → ((o : ℕ) → list_any (names_fence o) earlier ≡ false)
+    → ((a : Assign) → IsIn a xs → IsAllowed t f a)
     → assigns_refusal t f earlier (map unfenced xs) ≡ None
 unfolding assigns_refusal assign_refusal
 none-unfenced t f earlier [] before each = refl
 none-unfenced t f earlier (a ∷ xs) before each =
     or_else-nones _ (assigns_refusal t f (unfenced a ∷ earlier) (map unfenced xs))
     (or_else-nones (own_refusal t f (unfenced a)) _ (allowed-own t f (unfenced a) (allowed-unfenced t f a (each a (inl refl))))
-    (none-number_if 8 (is_second_fence earlier (unfenced a)) (and_right (prop_of a.prop == IN_FENCE_FD) (list_any (names_fence (object_of a)) earlier) (before (object_of a)))))
+    (none-number_if 8 (is_second_fence earlier (unfenced a))
+    (and_right (prop_of a.prop == IN_FENCE_FD) (list_any (names_fence (object_of a)) earlier) (before (object_of a)))))
     (none-unfenced t f (unfenced a ∷ earlier) xs (λ o. rw (no_fence o a) (before o)) (λ b is. each b (inr is)))
 
 filter-in : {A : Type 0} (p : A → Bool) (xs : List A) (x : A) → IsIn x (filter p xs) → p x ≡ true
@@ -129,12 +147,14 @@ abbrev asking : ℕ → ℕ → List Assign → Request
 asking flags user_data assigns = record { flags = flags; user_data = user_data; assigns = assigns }
 
 routed-unfenced : (t : Topology) (w : World) (xs : List Assign) (o : ℕ)
-    → touches_routed t w.things w.values (apply w.things w.values (map unfenced xs)) (map unfenced xs) o ≡ touches_routed t w.things w.values (apply w.things w.values xs) xs o
+    → touches_routed t w.things w.values (apply w.things w.values (map unfenced xs)) (map unfenced xs) o
+    ≡ touches_routed t w.things w.values (apply w.things w.values xs) xs o
 routed-unfenced t w xs o =
     ap (λ new. touches_routed t w.things w.values new (map unfenced xs) o) (apply-unfenced w.things w.values xs)
     ∙ ap (λ b. b || is_affected t w.things w.values (apply w.things w.values xs) o) (any-unfenced (λ a. object_of a == o) xs (λ a. refl))
 
-kind-unfenced : (k : Kind) (t : Topology) (w : World) (xs : List Assign) (flags others mine more o : ℕ) → touches_of_kind k t w (asking flags mine (map unfenced xs)) o ≡ touches_of_kind k t w (asking others more xs) o
+kind-unfenced : (k : Kind) (t : Topology) (w : World) (xs : List Assign) (flags others mine more o : ℕ)
+    → touches_of_kind k t w (asking flags mine (map unfenced xs)) o ≡ touches_of_kind k t w (asking others more xs) o
 kind-unfenced Crtc t w xs flags others mine more o =
     ap (λ new. touches_crtc w.values new (map unfenced xs) o) (apply-unfenced w.things w.values xs)
     ∙ ap (λ b. b || names w.values (apply w.things w.values xs) (map unfenced xs) o) (any-unfenced (λ a. object_of a == o) xs (λ a. refl))
@@ -143,20 +163,24 @@ kind-unfenced Plane t w xs flags others mine more o = routed-unfenced t w xs o
 kind-unfenced Conn t w xs flags others mine more o = routed-unfenced t w xs o
 kind-unfenced Enc t w xs flags others mine more o = refl
 
-touches-unfenced : (t : Topology) (w : World) (xs : List Assign) (flags others mine more o : ℕ) → touches t w (asking flags mine (map unfenced xs)) o ≡ touches t w (asking others more xs) o
+touches-unfenced : (t : Topology) (w : World) (xs : List Assign) (flags others mine more o : ℕ)
+    → touches t w (asking flags mine (map unfenced xs)) o ≡ touches t w (asking others more xs) o
 unfolding touches
 touches-unfenced t w xs flags others mine more o = kind-unfenced (kind_of o) t w xs flags others mine more o
 
 -- Sets of what is touched
 
-touches_at : (t : Topology) (w : World) (r : Request) (k : Kind) (i : ℕ) → i < 100 → touches t w r (object_id k i) ≡ touches_of_kind k t w r (object_id k i)
+touches_at : (t : Topology) (w : World) (r : Request) (k : Kind) (i : ℕ) → i < 100 → touches t w r (object_id k i)
+    ≡ touches_of_kind k t w r (object_id k i)
 unfolding touches
 touches_at t w r k i few = ap (λ j. touches_of_kind j t w r (object_id k i)) (kind_of-object k i few)
 
 few_at : (t : Topology) (k : Kind) (i : ℕ) → IsDevice t → i < count_of t k → i < 100
 few_at t k i device less = (let few = few_of t k (few_objects t device) in omega (arith, few, less))
 
-touched-same : (t : Topology) (w u : World) (r s : Request) → IsDevice t → ((k : Kind) (i : ℕ) → i < count_of t k → touches t w r (object_id k i) ≡ touches t u s (object_id k i)) → touched_by t w r ≡ touched_by t u s
+touched-same : (t : Topology) (w u : World) (r s : Request) → IsDevice t
+    → ((k : Kind) (i : ℕ) → i < count_of t k → touches t w r (object_id k i) ≡ touches t u s (object_id k i)) → touched_by t w r
+    ≡ touched_by t u s
 touched-same t w u r s device each = λ j. record { crtcs = crtcs j; planes = planes j; conns = conns j } where
   at : (k : Kind) (i : ℕ) → i < count_of t k → touches_of_kind k t w r (object_id k i) ≡ touches_of_kind k t u s (object_id k i)
   at k i less = sym (touches_at t w r k i (few_at t k i device less)) ∙ each k i less ∙ touches_at t u s k i (few_at t k i device less)
@@ -170,21 +194,28 @@ touched-same t w u r s device each = λ j. record { crtcs = crtcs j; planes = pl
   conns : (touched_by t w r).conns ≡ (touched_by t u s).conns
   conns = same_masks _ _ (count_of t Conn) (at Conn)
 
-member-touched : (t : Topology) (w : World) (r : Request) (k : Kind) (i : ℕ) → i < count_of t k → touches_of_kind k t w r (object_id k i) ≡ is_member (touched_by t w r) k i
-member-touched t w r Crtc i less = sym (has_bit-below (λ index. touches_crtc w.values (after w r) r.assigns (object_id Crtc index)) (count_of t Crtc) i less)
-member-touched t w r Plane i less = sym (has_bit-below (λ index. touches_routed t w.things w.values (after w r) r.assigns (object_id Plane index)) (count_of t Plane) i less)
-member-touched t w r Conn i less = sym (has_bit-below (λ index. touches_routed t w.things w.values (after w r) r.assigns (object_id Conn index)) (count_of t Conn) i less)
+member-touched : (t : Topology) (w : World) (r : Request) (k : Kind) (i : ℕ) → i < count_of t k → touches_of_kind k t w r (object_id k i)
+    ≡ is_member (touched_by t w r) k i
+member-touched t w r Crtc i less = sym (has_bit-below (λ index. touches_crtc w.values (after w r) r.assigns (object_id Crtc index))
+    (count_of t Crtc) i less)
+member-touched t w r Plane i less = sym (has_bit-below
+    (λ index. touches_routed t w.things w.values (after w r) r.assigns (object_id Plane index)) (count_of t Plane) i less)
+member-touched t w r Conn i less = sym (has_bit-below
+    (λ index. touches_routed t w.things w.values (after w r) r.assigns (object_id Conn index)) (count_of t Conn) i less)
 member-touched t w r Enc i less = refl
 
 -- an object of the device is in the set of those that a request touches where it touches it
-pub touched-member : (t : Topology) (w : World) (r : Request) (k : Kind) (i : ℕ) → IsDevice t → exists t k i ≡ true → is_member (touched_by t w r) k i ≡ touches t w r (object_id k i)
+pub touched-member : (t : Topology) (w : World) (r : Request) (k : Kind) (i : ℕ) → IsDevice t → exists t k i ≡ true
+    → is_member (touched_by t w r) k i ≡ touches t w r (object_id k i)
 touched-member t w r k i device there =
     let less : i < count_of t k = ltb-true i (count_of t k) there in
     sym (touches_at t w r k i (few_at t k i device less) ∙ member-touched t w r k i less)
 
-pub reached-member : (t : Topology) (w : World) (r : Request) (k : Kind) (i : ℕ) (reached : Mask) → IsDevice t → exists t k i ≡ true → reached ≡ reached_by t w r → is_member reached k i ≡ reaches t w r (object_id k i)
+pub reached-member : (t : Topology) (w : World) (r : Request) (k : Kind) (i : ℕ) (reached : Mask) → IsDevice t → exists t k i ≡ true
+    → reached ≡ reached_by t w r → is_member reached k i ≡ reaches t w r (object_id k i)
 unfolding reaches
-reached-member t w r k i reached device there is = ap (λ (m : Mask). is_member m k i) is ∙ touched-member t w (record r { assigns = reaching t w r.assigns }) k i device there
+reached-member t w r k i reached device there is = ap (λ (m : Mask). is_member m k i) is ∙ touched-member t w
+    (record r { assigns = reaching t w r.assigns }) k i device there
 
 -- The present states are those of the world in which all things are open.
 
@@ -209,7 +240,10 @@ tells-open w f tells label = tells label ∙ sym (look-open w label)
 
 -- What is reached
 
-module _ (t : Topology) (w : World) (f : ℕ → Look) (r : Request) (d after : Duplicates) (present : ArePresent t w d) (tells : TellSame f (look_up_any w)) (olds : old_states after ≡ old_states d)
+module _ (t : Topology) (w : World) (f : ℕ → Look) (r : Request) (d after : Duplicates) (present : ArePresent t w d)
+    (tells : TellSame f (look_up_any w)) (olds : (things : List worlds.Thing) (values : List Setting) → AgreesOld t things values d
+    → AgreesOld t things values after)
+    (same : AreSameDuplicated d after)
     (new : AgreesNew t (all_open w).things (apply (all_open w).things (all_open w).values (allowed_by t f r.assigns)) after) where
   -- a request that is let through there, and touches the same
   abbrev quiet : Request
@@ -223,7 +257,8 @@ module _ (t : Topology) (w : World) (f : ℕ → Look) (r : Request) (d after : 
 
   early : early_refusal t f quiet ≡ None
   unfolding early_refusal
-  early = or_else-nones _ _ refl (none-unfenced t f [] (allowed_by t f r.assigns) (λ o. refl) (λ a is. counted-allowed t f a (filter-in (λ b. is_none (own_refusal t f b)) r.assigns a is)))
+  early = or_else-nones _ _ refl (none-unfenced t f [] (allowed_by t f r.assigns) (λ o. refl)
+      (λ a is. counted-allowed t f a (filter-in (λ b. is_none (own_refusal t f b)) r.assigns a is)))
 
   early_open : early_in t (all_open w) quiet ≡ None
   early_open = ap (λ g. early_refusal t g quiet) (sym looks_open) ∙ early
@@ -235,28 +270,40 @@ module _ (t : Topology) (w : World) (f : ℕ → Look) (r : Request) (d after : 
         device = present.device;
         sound = opened.sound;
         early = early_open;
-        old = AgreesOld-same t (all_open w).things (all_open w).values d after olds opened.old;
-        new = subst (λ (values : List Setting). AgreesNew t (all_open w).things values after) (sym (apply-unfenced (all_open w).things (all_open w).values (allowed_by t f r.assigns))) new;
-        all = all_after t d after olds present.all;
+        old = olds (all_open w).things (all_open w).values opened.old;
+        new = subst (λ (values : List Setting). AgreesNew t (all_open w).things values after)
+            (sym (apply-unfenced (all_open w).things (all_open w).values (allowed_by t f r.assigns))) new;
+        all = all_after t d after same present.all;
       }
 
   touches-quiet : (o : ℕ) → touches t (all_open w) quiet o ≡ touches t w (record r { assigns = allowed_by t f r.assigns }) o
   unfolding reaches
   touches-quiet o =
       open-reach t w quiet o early_open
-      ∙ ap (λ assigns. touches t w (record quiet { assigns = assigns }) o) (all-counted t (look_up_any w) quiet (ap (λ g. early_refusal t g quiet) (sym looks) ∙ early))
+      ∙ ap (λ assigns. touches t w (record quiet { assigns = assigns }) o)
+      (all-counted t (look_up_any w) quiet (ap (λ g. early_refusal t g quiet) (sym looks) ∙ early))
       ∙ touches-unfenced t w (allowed_by t f r.assigns) 0 r.flags r.user_data r.user_data o
 
-  pub reached-is : (items : List Assign) (named : ℕ) (touched : Mask) → items ≡ r.assigns → AreCrtcs (λ crtc. list_any (λ a. is_named_between after a crtc) (allowed_by t f items)) named
-      → touched ≡ union (union (objects_assigned (allowed_by t f items)) (record { crtcs = named; planes = 0; conns = 0 })) (affected_below after.crtcs named 4) → touched ≡ reached_by t w r
+  pub reached-is : (items : List Assign) (named : ℕ) (touched : Mask) → items ≡ r.assigns
+      → AreCrtcs (λ crtc. list_any (λ a. is_named_between after a crtc) (allowed_by t f items)) named
+      → touched ≡ union (union (objects_assigned (allowed_by t f items)) (record { crtcs = named; planes = 0; conns = 0 }))
+      (affected_below after.crtcs named 4) → touched ≡ reached_by t w r
   reached-is items named touched same are touched_is =
       let Named : List Assign → Type 0 = λ xs. AreCrtcs (λ crtc. list_any (λ a. is_named_between after a crtc) (allowed_by t f xs)) named in
       let own = subst Named same are in
       let quiet_named : AreCrtcs (λ crtc. list_any (λ a. is_named_between after a crtc) quiet.assigns) named =
-      record { below = own.below; bits = λ i low. own.bits i low ∙ sym (any-unfenced (λ a. is_named_between after a (object_id Crtc i)) (allowed_by t f r.assigns) (λ a. refl)) } in
+      record {
+        below = own.below;
+        bits = λ i low. own.bits i low ∙ sym
+            (any-unfenced (λ a. is_named_between after a (object_id Crtc i)) (allowed_by t f r.assigns) (λ a. refl));
+      } in
       let named_is = named_between-is t (all_open w) quiet after named stands quiet_named in
-      let set : objects_assigned (allowed_by t f items) ≡ objects_assigned quiet.assigns = ap (λ (xs : List Assign). objects_assigned (allowed_by t f xs)) same ∙ sym (objects-unfenced (allowed_by t f r.assigns)) in
-      let touched_now = touched_is ∙ ap (λ m. union (union m (record { crtcs = named; planes = 0; conns = 0 })) (affected_below after.crtcs named 4)) set in
+      let set : objects_assigned (allowed_by t f items)
+      ≡ objects_assigned quiet.assigns = ap (λ (xs : List Assign). objects_assigned (allowed_by t f xs)) same ∙ sym
+      (objects-unfenced (allowed_by t f r.assigns)) in
+      let touched_now = touched_is ∙ ap (λ m. union (union m (record { crtcs = named; planes = 0; conns = 0 }))
+      (affected_below after.crtcs named 4)) set in
       spans-touched t (all_open w) quiet after named touched stands named_is touched_now
-      ∙ touched-same t (all_open w) w quiet (record r { assigns = allowed_by t f r.assigns }) present.device (λ k i less. touches-quiet (object_id k i))
+      ∙ touched-same t (all_open w) w quiet (record r { assigns = allowed_by t f r.assigns }) present.device
+      (λ k i less. touches-quiet (object_id k i))
       ∙ ap (λ g. touched_by t w (record r { assigns = allowed_by t g r.assigns })) looks

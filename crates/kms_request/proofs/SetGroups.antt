@@ -30,7 +30,8 @@ use Rattle.kms_request.proofs.NamedLemmas.{shorter}
 -- What a request sets
 
 -- an assignment of a request for which no early refusal is due is allowed
-pub allowed-each : (t : Topology) (f : ℕ → Look) (r : Request) (a : Assign) → early_refusal t f r ≡ None → IsIn a r.assigns → IsAllowed t f a
+pub allowed-each : (t : Topology) (f : ℕ → Look) (r : Request) (a : Assign) → early_refusal t f r ≡ None → IsIn a r.assigns
+    → IsAllowed t f a
 allowed-each t f r a accepted is = all_in (IsAllowed t f) r.assigns a (accepted_allowed t f r accepted) is
 
 -- objects that are set are those of the last sets
@@ -39,7 +40,8 @@ same_object a b object target is =
     let same : object_of a ≡ object_of b = eqb-true (object_of a) (object_of b) (and_parts (object_of a == object_of b) _ target).0 in
     subst (λ o. (o == object) ≡ true) same is
 
-set_later : (a : Assign) (assigns : List Assign) (object : ℕ) → list_any (has_target_of a) assigns ≡ true → (object_of a == object) ≡ true → sets assigns object ≡ true
+set_later : (a : Assign) (assigns : List Assign) (object : ℕ) → list_any (has_target_of a) assigns ≡ true → (object_of a == object) ≡ true
+    → sets assigns object ≡ true
 set_later a [] object again is = absurd (both_ways _ refl again)
 set_later a (b ∷ assigns) object again is =
     elim (or_cases (has_target_of a b) (list_any (has_target_of a) assigns) again) [
@@ -47,12 +49,14 @@ set_later a (b ∷ assigns) object again is =
       | inr later ↦ or_right (object_of b == object) (sets assigns object) (set_later a assigns object later is)
     ]
 
-pub sets-last : (f : ℕ → Look) (assigns : List Assign) (object : ℕ) → list_any (λ s. s.object.0 == object) (last_sets f assigns) ≡ sets assigns object
+pub sets-last : (f : ℕ → Look) (assigns : List Assign) (object : ℕ) → list_any (λ s. s.object.0 == object) (last_sets f assigns)
+    ≡ sets assigns object
 unfolding last_sets
 sets-last f [] object = refl
 sets-last f (a ∷ assigns) object =
     elim (cases_Bool (list_any (has_target_of a) assigns)) [
-      | inl again ↦ rw again (sets-last f assigns object ∙ absorbed (object_of a == object) (sets assigns object) (set_later a assigns object again))
+      | inl again ↦ rw again (sets-last f assigns object ∙ absorbed (object_of a == object) (sets assigns object)
+          (set_later a assigns object again))
       | inr not_again ↦ rw not_again (ap (λ b. (object_of a == object) || b) (sets-last f assigns object))
     ]
   where
@@ -61,9 +65,12 @@ sets-last f (a ∷ assigns) object =
     absorbed false b implies = refl
 
 -- objects beyond a device are not set
-unset-beyond : (t : Topology) (f : ℕ → Look) (r : Request) (k : Kind) (i : ℕ) → IsDevice t → early_refusal t f r ≡ None → count_of t k ≤ i → i < 16 → sets r.assigns (object_id k i) ≡ false
+unset-beyond : (t : Topology) (f : ℕ → Look) (r : Request) (k : Kind) (i : ℕ) → IsDevice t → early_refusal t f r ≡ None → count_of t k ≤ i
+    → i < 16 → sets r.assigns (object_id k i) ≡ false
 unset-beyond t f r k i device accepted beyond few =
-    items.list_any-none (λ a. object_of a == object_id k i) r.assigns (λ a is. false_from_ne_true _ (λ same. not_there a (allowed-each t f r a accepted is) (eqb-true (object_of a) (object_id k i) same)))
+    items.list_any-none (λ a. object_of a == object_id k i) r.assigns
+    (λ a is. false_from_ne_true _ (λ same. not_there a (allowed-each t f r a accepted is)
+    (eqb-true (object_of a) (object_id k i) same)))
   where
     not_there : (a : Assign) → IsAllowed t f a → object_of a ≡ object_id k i → ⊥
     not_there a allowed same =

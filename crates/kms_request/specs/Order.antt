@@ -12,7 +12,8 @@ use Rattle.kms_model.specs.declared.states.CrtcState.{CrtcState}
 use Rattle.kms_model.specs.declared.states.PlaneState.{PlaneState}
 use Rattle.kms_model.specs.Device.Objects.{count_of}
 use Rattle.kms_model.specs.Device.Sound.{IsPlaneInRange}
-use Rattle.kms_model.specs.Request.Late.{duplicate_in, needs_modeset_if, plane_refusal_of, crtc_refusal_of, conn_refusal_of, clone_refusal_of, route_refusal_of, shown_refusal_of}
+use Rattle.kms_model.specs.Request.Late.{duplicate_in, needs_modeset_if, plane_refusal_of, crtc_refusal_of, conn_refusal_of}
+use Rattle.kms_model.specs.Request.Late.{clone_refusal_of, route_refusal_of, shown_refusal_of}
 use Rattle.kms_props.specs.Flags.{bits_of}
 use Rattle.kms_request.specs.declared.late.Asked.{Asked}
 use Rattle.kms_request.specs.declared.late.OrderStep.{OrderStep}

@@ -1,6 +1,5 @@
 -- Requests against duplicates of the whole device.
-use Rattle.std.specs.Prelude.{◌≡◌, ℕ, ◌<◌, Bool, true, false, ◌||◌, ◌==◌, List, None, filter, is_none, is_some}
-use Rattle.kms_model.specs.Device.Places.{state_at}
+use Rattle.std.specs.Prelude.{◌≡◌, ℕ, Bool, true, false, ◌||◌, ◌==◌, List, None, filter, is_none}
 use Rattle.kms_model.specs.declared.objects.Kind.{Kind}
 use Rattle.kms_model.specs.declared.objects.Kind.TheVariants.{Crtc, Plane, Conn, Enc}
 use Rattle.kms_model.specs.declared.objects.Topology.{Topology}
@@ -14,23 +13,17 @@ use Rattle.kms_model.specs.Request.Agreement.{AgreesNew, AgreesOld}
 use Rattle.kms_model.specs.Request.Apply.{after, object_of}
 use Rattle.kms_model.specs.Request.Lookups.{look_up}
 use Rattle.kms_model.specs.Device.Masks.{has_bit}
-use Rattle.kms_model.specs.Device.Objects.{count_of}
 use Rattle.kms_model.specs.Request.Reach.{reaching}
 use Rattle.kms_model.specs.Request.Resolves.{IsSettable}
 use Rattle.kms_model.specs.Request.Touched.{touched_by}
 use Rattle.kms_model.specs.Request.Refusals.{early_refusal, own_refusal}
 use Rattle.kms_model.specs.Device.Sound.{IsDevice, IsNumbered, IsSound}
+use Rattle.kms_props.specs.Setting.{AreAllDuplicated}
 use Rattle.kms_request.specs.Naming.{next_crtc, old_crtc_id}
 
 -- An assignment names a CRTC: it sets it, or a plane or a connector that is on it in its old or its new state.
 abbrev pub is_named_between : Duplicates → Assign → ℕ → Bool
 is_named_between d a crtc = ((object_of a == crtc) || (old_crtc_id d (object_of a) == crtc)) || (next_crtc d (object_of a) == crtc)
-
--- every object of a device is duplicated
-pub record AreAllDuplicated (t : Topology) (d : Duplicates) : Type 0 where
-  pub crtcs : (index : ℕ) → index < count_of t Crtc → is_some (state_at d.crtcs index) ≡ true
-  pub planes : (index : ℕ) → index < count_of t Plane → is_some (state_at d.planes index) ≡ true
-  pub conns : (index : ℕ) → index < count_of t Conn → is_some (state_at d.conns index) ≡ true
 
 -- Duplicates of the whole device before and after a request in a sound world: no early refusal is due there, the
 -- old states are those of the world's values, and the new ones those of the values after the request.

@@ -11,26 +11,24 @@ use Rattle.kms_model.specs.Request.Lookups.{look_up}
 use Rattle.kms_model.specs.Request.Refusals.{early_refusal}
 use Rattle.kms_model.specs.Request.Verdict.{verdict}
 use Rattle.kms_model.proofs.Items.{or_else-none}
-use Rattle.kms_state.specs.Places.{OldStates, old_states, olds}
-use Rattle.kms_state.proofs.Slots.{there_old}
+use Rattle.kms_props.specs.Setting.{AreSameDuplicated}
 use Rattle.kms_request.specs.Whole.{ArePresent, ArePresentSomewhere, StandBetween}
 use Rattle.kms_serial.specs.Device.{StandsInWorld}
 use Rattle.kms_things.specs.Present.{AreWhole, IsAfter, IsWhole}
 
 -- what is duplicated stays so
-whole_same : {S : Type 0} (count : ℕ) (before after : List (Option (Both S))) → olds after ≡ olds before → AreWhole count before → AreWhole count after
-whole_same count before after same whole =
-    let alike : (index : ℕ) → is_some (state_at after index) ≡ is_some (state_at before index) = λ index. there_old after index ∙ ap (λ xs. is_some (state_at xs index)) same ∙ sym (there_old before index) in
-    record {
-      there = λ index lt. alike index ∙ whole.there index lt;
-      only = λ index some. whole.only index (sym (alike index) ∙ some);
-    }
+whole_same : {S : Type 0} (count : ℕ) (before after : List (Option (Both S)))
+    → ((index : ℕ) → is_some (state_at after index) ≡ is_some (state_at before index)) → AreWhole count before → AreWhole count after
+whole_same count before after alike whole = record {
+  there = λ index lt. alike index ∙ whole.there index lt;
+  only = λ index some. whole.only index (sym (alike index) ∙ some);
+}
 
-whole_after : (t : Topology) (before after : Duplicates) → old_states after ≡ old_states before → IsWhole t before → IsWhole t after
+whole_after : (t : Topology) (before after : Duplicates) → AreSameDuplicated before after → IsWhole t before → IsWhole t after
 whole_after t before after same whole = record {
-  crtcs = whole_same t.crtcs before.crtcs after.crtcs (ap (λ (o : OldStates). o.crtcs) same) whole.crtcs;
-  planes = whole_same (length t.planes) before.planes after.planes (ap (λ (o : OldStates). o.planes) same) whole.planes;
-  conns = whole_same (length t.conns) before.conns after.conns (ap (λ (o : OldStates). o.conns) same) whole.conns;
+  crtcs = whole_same t.crtcs before.crtcs after.crtcs same.crtcs whole.crtcs;
+  planes = whole_same (length t.planes) before.planes after.planes same.planes whole.planes;
+  conns = whole_same (length t.conns) before.conns after.conns same.conns whole.conns;
 }
 
 -- the states of a device are the present ones
@@ -41,14 +39,20 @@ present t w d stands = record {
   numbered = stands.lawful.numbered;
   old = stands.present.old;
   new = stands.present.new;
-  all = record { crtcs = stands.present.whole.crtcs.there; planes = stands.present.whole.planes.there; conns = stands.present.whole.conns.there };
+  all = record {
+    crtcs = stands.present.whole.crtcs.there;
+    planes = stands.present.whole.planes.there;
+    conns =
+        stands.present.whole.conns.there;
+  };
 }
 
 pub present_there : (t : Topology) (w : World) (d : Duplicates) → StandsInWorld t w d → ArePresentSomewhere look_up t (look_up w) d
 present_there t w d stands = record { world = w; present = present t w d stands; tells = λ label. refl }
 
 -- those after a request for which no early refusal is due
-pub stands_after : (t : Topology) (w : World) (r : Request) (before after : Duplicates) → StandsInWorld t w before → old_states after ≡ old_states before → StandBetween t w r after → IsAfter t w r after
+pub stands_after : (t : Topology) (w : World) (r : Request) (before after : Duplicates) → StandsInWorld t w before
+    → AreSameDuplicated before after → StandBetween t w r after → IsAfter t w r after
 stands_after t w r before after stands same between = record {
   whole = whole_after t before after same stands.present.whole;
   old = between.old;

@@ -1,5 +1,6 @@
 -- What planes are set to, as ids; and framebuffers that are not there have no image.
-use Rattle.std.proofs.Common.{◌≡◌, ℕ, ◌<◌, Bool, true, false, cond, List, [], ◌∷◌, length, Option, Some, None, inl, inr, arith, refl, sym, ap, ◌∙◌, subst}
+use Rattle.std.proofs.Common.{◌≡◌, ℕ, ◌<◌, Bool, true, false, cond, List, [], ◌∷◌, length, Option, Some, None, inl, inr, arith, refl, sym}
+use Rattle.std.proofs.Common.{ap, ◌∙◌, subst}
 use Rattle.std.specs.Prelude.{◌&&◌, ◌||◌, ℤ, pos, is_some, slice_get}
 use Rattle.std.specs.List.{AllByRecursion}
 use Rattle.std.specs.Option.{option_map}
@@ -33,7 +34,8 @@ use Rattle.kms_serial.specs.Device.{StandsInWorld}
 use Rattle.kms_serial.specs.Framebuffers.{framebuffer_id, id_or_zero}
 use Rattle.kms_model.specs.Frames.Shown.{AreFramed, FramesIn}
 
-matches-if : (y x : Thing) (z : ℤ) (b : Bool) (o : Option Thing) → int_eq (pos y.id) z ≡ b → cond b (Some y) o ≡ Some x → (o ≡ Some x → pos x.id ≡ z) → pos x.id ≡ z
+matches-if : (y x : Thing) (z : ℤ) (b : Bool) (o : Option Thing) → int_eq (pos y.id) z ≡ b → cond b (Some y) o ≡ Some x
+    → (o ≡ Some x → pos x.id ≡ z) → pos x.id ≡ z
 matches-if y x z true o is e rest = let same : y ≡ x = cc in ap (λ (t : Thing). pos t.id) (sym same) ∙ (Decides-int_eq (pos y.id) z).0 is
 matches-if y x z false o is e rest = rest e
 
@@ -46,7 +48,8 @@ in-things P [] t h is = absurd is
 in-things P (u ∷ us) t h (inl same) = subst P same h.0
 in-things P (u ∷ us) t h (inr rest) = in-things P us t h.1 rest
 
-own-id : (things : List Thing) (id : ℕ) (c : Content) → FramesIn things id c → is_some (framebuffer_in c) ≡ true → id_or_zero (framebuffer_in c) ≡ id
+own-id : (things : List Thing) (id : ℕ) (c : Content) → FramesIn things id c → is_some (framebuffer_in c) ≡ true
+    → id_or_zero (framebuffer_in c) ≡ id
 own-id things id (content.Framebuffer info of) framed some = framed.own_id
 own-id things id (content.Buffer width height format pattern) framed some = absurd cc
 own-id things id (content.Mode m) framed some = absurd cc
@@ -72,7 +75,8 @@ number-of things z (Some t) numbered framed at held =
     let there = find-in (λ u. int_eq (pos u.id) z) things t at in
     elim (or_cases (int_eq z (pos 0)) (is_some (framebuffer_in t.content)) held) [
       | inl zero_ ↦ absurd (no-zero things t z numbered at ((Decides-int_eq z (pos 0)).0 zero_))
-      | inr some ↦ ap pos (own-id things t.id t.content (in-things (λ u. FramesIn things u.id u.content) things t framed there) some) ∙ matches things z t at
+      | inr some ↦ ap pos (own-id things t.id t.content (in-things (λ u. FramesIn things u.id u.content) things t framed there) some) ∙
+          matches things z t at
     ]
 
 is-held : (b c d e : Bool) → (b || ((true && c) || ((false && d) || (false && e)))) ≡ true → (b || c) ≡ true
@@ -86,14 +90,18 @@ pub fb_id-is : (t : Topology) (w : World) (index : ℕ) → IsLawful t w → Are
 fb_id-is t w index lawful framed within =
     let z = value w.values (object_id kind.Plane index) FB_ID in
     number-of w.things z (thing_numbered w.things z) lawful.numbered.things framed refl
-    (is-held (int_eq z (pos 0)) (is_some (framebuffer_of (thing_numbered w.things z))) (has_legal_mode (mode_of (thing_numbered w.things z))) (is_some (gamma_of (thing_numbered w.things z)))
-    (fb-held t w.things w.values (object_id kind.Plane index) (all_held-from t w.things w.values lawful.sound.held) (ids-has t kind.Plane index within)))
+    (is-held (int_eq z (pos 0)) (is_some (framebuffer_of (thing_numbered w.things z)))
+    (has_legal_mode (mode_of (thing_numbered w.things z))) (is_some (gamma_of (thing_numbered w.things z)))
+    (fb-held t w.things w.values (object_id kind.Plane index) (all_held-from t w.things w.values lawful.sound.held)
+    (ids-has t kind.Plane index within)))
 
 -- the same of a state that is duplicated
-pub fb_of_state : (t : Topology) (w : World) (d : Duplicates) (index : ℕ) (o : Option (Both PlaneState)) → StandsInWorld t w d → index < length t.planes
+pub fb_of_state : (t : Topology) (w : World) (d : Duplicates) (index : ℕ) (o : Option (Both PlaneState)) → StandsInWorld t w d → index
+    < length t.planes
     → state_at d.planes index ≡ o → pos (framebuffer_id (option_map (λ b. b.new) o)) ≡ value w.values (object_id kind.Plane index) FB_ID
 fb_of_state t w d index None stands within is =
-    absurd (let some = stands.present.whole.planes.there index within in let none : is_some (state_at d.planes index) ≡ false = rw is refl in cc)
+    absurd (let some = stands.present.whole.planes.there index within in let none : is_some (state_at d.planes index) ≡ false = rw is refl
+    in cc)
 fb_of_state t w d index (Some both) stands within is =
     let new = stands.present.new.planes index both (flatten-some (slice_get d.planes index) both is) in
     ap (λ (s : PlaneState). pos (id_or_zero s.fb)) new ∙ fb_id-is t w index stands.lawful stands.framed within
@@ -106,7 +114,8 @@ no-buffer (content.Blob bytes) e = refl
 no-buffer content.Fence e = refl
 no-buffer content.OutFence e = refl
 
-no-image-in : (things : List Thing) (o : Option Thing) → framebuffer_of o ≡ None → (o >>= λ f. buffer_id_in f.content >>= λ id. thing_with_id things id >>= λ b. seen_in b.content) ≡ None
+no-image-in : (things : List Thing) (o : Option Thing) → framebuffer_of o ≡ None
+    → (o >>= λ f. buffer_id_in f.content >>= λ id. thing_with_id things id >>= λ b. seen_in b.content) ≡ None
 no-image-in things None e = refl
 no-image-in things (Some t) e = rw (no-buffer t.content e) refl
 

@@ -9,6 +9,7 @@ ghost use Rattle.kms_things.specs.Present.{IsAfter};
 use crate::store::WorldStore;
 use kms_model::{Duplicates, Refusal, Request, Topology};
 use kms_request::{changed, early, full_check};
+use kms_state::InPlace;
 
 /// The states of all objects after a request, or its first refusal. They are the device's present states before.
 #[tactic(auto, unfolding(kms_model::specs::Request::Verdict::verdict))]
@@ -29,7 +30,7 @@ pub fn check(
     if let Some(refusal) = early(topology, request, store) {
         return Err(refusal);
     }
-    let after = changed(topology, request, store, states);
+    let after = changed(topology, request, store, states, &InPlace);
     match full_check(topology, &after, request) {
         Some(refusal) => Err(refusal),
         None => Ok(after),

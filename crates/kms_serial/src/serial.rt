@@ -29,7 +29,7 @@ use kms_model::{
 use kms_picture::picture;
 use kms_props::is_test;
 use kms_request::{Looker, changed, named_in, spans};
-use kms_state::Duplicating;
+use kms_state::{Duplicating, InPlace};
 use kms_things::{start_states, swap};
 use std::alloc::Global;
 use std::marker::Model;
@@ -204,7 +204,7 @@ impl Serial {
         ensures named { result.0 ≡ named_by self.now.topology self.now.world request.now }
         ensures touched { result.1 ≡ touched_by self.now.topology self.now.world request.now }
     {
-        let after = changed(&self.topology, request, &self.store, &self.states);
+        let after = changed(&self.topology, request, &self.store, &self.states, &InPlace);
         spans(&after, request)
     }
 
@@ -271,7 +271,7 @@ impl Serial {
     pub fn id_of(&self, label: u32) -> Option<u32>
         ensures { result ≡ option_map (λ t. t.id) (thing_labelled self.now.world.things label) }
     {
-        Some(self.store.things().labelled(label)?.id)
+        Some(self.store.things().thing_labelled(label)?.id)
     }
 
     /// What a label, by its number from 0, names.

@@ -3,3 +3,4 @@ pub mod Frames
 pub mod Routes
 pub mod SetsProperty
 pub mod OnceDuplicated
+pub mod WholeDevice

@@ -1,5 +1,6 @@
 -- What a set of one property makes of the new states.
-use Rattle.std.proofs.Common.{◌≡◌, ◌≢◌, ℕ, ◌-◌, ◌<◌, ◌≤◌, length, set, List, Option, Some, None, ℤ, pos, negsuc, Bool, true, false, IsTrue, is_some, slice_get, inl, inr, refl, sym, ap, ap₂, subst, subst₂, ◌∙◌, arith, if◌then◌else◌, w64, SFits, of_z}
+use Rattle.std.proofs.Common.{◌≡◌, ◌≢◌, ℕ, ◌-◌, ◌<◌, ◌≤◌, length, set, List, Option, Some, None, ℤ, pos, negsuc, Bool, true, false, IsTrue}
+use Rattle.std.proofs.Common.{is_some, slice_get, inl, inr, refl, sym, ap, ap₂, subst, subst₂, ◌∙◌, arith, if◌then◌else◌, w64, SFits, of_z}
 use mathlib.Core.Path.{fun_ext}
 use Rattle.std.specs.Prelude.{◌==◌, not}
 use Rattle.std.specs.Ordering.{int_eq}
@@ -33,7 +34,8 @@ use Rattle.kms_model.specs.Request.Agreement.{AgreesNew, AreNew, StandsFor, conn
 use Rattle.kms_model.proofs.SetLemmas.{may_set-takes, takes}
 use Rattle.kms_model.proofs.ValueLemmas.{Puts, Puts-put}
 use Rattle.kms_state.specs.Places.{is_duplicated, is_duplicated_of, state_of, old_states}
-use Rattle.kms_state.specs.Changes.{HasObject, IsSet, Sets, after_crtc, after_number, after_value, new_number, plane_after_set, rerouted, set_to, with_new}
+use Rattle.kms_state.specs.Changes.{HasObject, IsSet, Sets, after_crtc, after_number, after_value, new_number, plane_after_set, rerouted}
+use Rattle.kms_state.specs.Changes.{set_to, with_new}
 use Rattle.kms_state.proofs.Frames.{conn_state_at-other, crtc_at-kept, crtc_state_at-other, on_crtc-same, plane_at-other, same_crtc_state}
 use Rattle.kms_model.proofs.KindsOfIds.{has_kind, kind-conn, kind-crtc, kind-plane}
 use Rattle.kms_state.proofs.Routes.{AreNew-rerouted, IsRouted}
@@ -45,10 +47,12 @@ pub record IsAt {S : Type 0} (kind : Kind) (states : List (Option (Both S))) (id
   pub at : slice_get states (id - first_id kind) ≡ Some (Some both)
 
 -- what a search by id finds is there
-pub is_at : {S : Type 0} (kind : Kind) (states : List (Option (Both S))) (id : ℕ) (both : Both S) → IsTrue (is_some (state_of kind states id)) → Some both ≡ state_at states (id - first_id kind) → IsAt kind states id both
+pub is_at : {S : Type 0} (kind : Kind) (states : List (Option (Both S))) (id : ℕ) (both : Both S)
+    → IsTrue (is_some (state_of kind states id)) → Some both ≡ state_at states (id - first_id kind) → IsAt kind states id both
 is_at {S} kind states id both there is = record {
   from = elim (cases_lt id (first_id kind)) [
-    | inl below ↦ (let none : is_some (state_of kind states id) ≡ false = ap (λ b. is_some (if b then state_at states (id - first_id kind) else None)) (lt-leb (first_id kind) id below) in
+    | inl below ↦ (let none : is_some (state_of kind states id)
+        ≡ false = ap (λ b. is_some (if b then state_at states (id - first_id kind) else None)) (lt-leb (first_id kind) id below) in
         absurd (false≢true (sym none ∙ there)))
     | inr from ↦ from
   ];
@@ -56,8 +60,10 @@ is_at {S} kind states id both there is = record {
 }
 
 -- a set of a property that is kept
-pub set_is : (d after : Duplicates) (id prop : ℕ) (value : SetValue) → is_kept prop ≡ true → after ≡ after_value d id prop value → old_states after ≡ old_states d
-    → ((t : Topology) (things : List Thing) (values : List Setting) (number : ℤ) → HasObject t id → AgreesNew t things values d → StandsFor things value number → AgreesNew t things (put values id prop number) after)
+pub set_is : (d after : Duplicates) (id prop : ℕ) (value : SetValue) → is_kept prop ≡ true → after ≡ after_value d id prop value
+    → old_states after ≡ old_states d
+    → ((t : Topology) (things : List Thing) (values : List Setting) (number : ℤ) → HasObject t id → AgreesNew t things values d
+    → StandsFor things value number → AgreesNew t things (put values id prop number) after)
     → IsSet d (set_to id prop value) after
 set_is d after id prop value kept states old new = record {
   states = states;
@@ -66,92 +72,122 @@ set_is d after id prop value kept states old new = record {
 }
 
 -- a number of a plane, or its framebuffer
-pub sets_plane : (d : Duplicates) (id prop : ℕ) (value : SetValue) (both other : Both PlaneState) → IsAt Plane d.planes id both → other.old ≡ both.old → length d.crtcs ≡ 4
+pub sets_plane : (d : Duplicates) (id prop : ℕ) (value : SetValue) (both other : Both PlaneState) → IsAt Plane d.planes id both → other.old
+    ≡ both.old → length d.crtcs ≡ 4
     → record d { planes = set d.planes (id - first_id Plane) (Some other) } ≡ after_value d id prop value
     → is_kept prop ≡ true → prop ≢ CRTC_ID
-    → ((things : List Thing) (before after : List Setting) (number : ℤ) → StandsFor things value number → Puts before after id prop number → both.new ≡ plane_at things before id → other.new ≡ plane_at things after id)
+    → ((things : List Thing) (before after : List Setting) (number : ℤ) → StandsFor things value number → Puts before after id prop number
+    → both.new ≡ plane_at things before id → other.new ≡ plane_at things after id)
     → IsSet d (set_to id prop value) (record d { planes = set d.planes (id - first_id Plane) (Some other) })
 sets_plane d id prop value both other there old few states kept apart changes =
     let is : id ≡ object_id Plane (id - first_id Plane) = omega (arith, there.from) in
     set_is d (record d { planes = set d.planes (id - first_id Plane) (Some other) }) id prop value kept states
-    (ap (λ xs. record { crtcs = (old_states d).crtcs; planes = xs; conns = (old_states d).conns }) (olds-set d.planes (id - first_id Plane) both other there.at old))
+    (ap (λ xs. record { crtcs = (old_states d).crtcs; planes = xs; conns = (old_states d).conns })
+    (olds-set d.planes (id - first_id Plane) both other there.at old))
     (λ t things values number room agrees stands.
     let after : List Setting = put values id prop number in
     let puts : Puts values after id prop number = Puts-put values id prop number in
     record {
-      crtcs = AreNew-same (λ c. crtc_state_at t things values (object_id Crtc c)) (λ c. crtc_state_at t things after (object_id Crtc c)) d.crtcs agrees.crtcs
-          (λ c h. crtc_state_at-other t things values after id prop (object_id Crtc c) number puts (λ e. omega (arith, e, few, h, there.from)) apart);
-      planes = AreNew-set (λ i. plane_at things values (object_id Plane i)) (λ i. plane_at things after (object_id Plane i)) d.planes (id - first_id Plane) other agrees.planes
+      crtcs = AreNew-same (λ c. crtc_state_at t things values (object_id Crtc c)) (λ c. crtc_state_at t things after (object_id Crtc c))
+          d.crtcs agrees.crtcs
+          (λ c h. crtc_state_at-other t things values after id prop (object_id Crtc c) number puts
+          (λ e. omega (arith, e, few, h, there.from)) apart);
+      planes = AreNew-set (λ i. plane_at things values (object_id Plane i)) (λ i. plane_at things after (object_id Plane i)) d.planes
+          (id - first_id Plane) other agrees.planes
           (λ k h ne. plane_at-other things values after id prop (object_id Plane k) number puts (λ e. ne (omega (arith, e))))
-          (changes things values after number stands puts (agrees.planes (id - first_id Plane) both there.at ∙ ap (plane_at things values) (sym is)) ∙ ap (plane_at things after) is);
+          (changes things values after number stands puts
+          (agrees.planes (id - first_id Plane) both there.at ∙ ap (plane_at things values) (sym is)) ∙ ap (plane_at things after) is);
       conns = AreNew-same (λ i. conn_state_at values (object_id Conn i)) (λ i. conn_state_at after (object_id Conn i)) d.conns agrees.conns
           (λ i h. ap (λ crtc. record { crtc = crtc }) (crtc_at-kept values after id prop (object_id Conn i) number puts apart));
     })
 
 -- ACTIVE, MODE_ID or GAMMA_LUT of a CRTC
-pub sets_crtc : (d : Duplicates) (id prop : ℕ) (value : SetValue) (both other : Both CrtcState) → IsAt Crtc d.crtcs id both → other.old ≡ both.old → length d.crtcs ≡ 4
+pub sets_crtc : (d : Duplicates) (id prop : ℕ) (value : SetValue) (both other : Both CrtcState) → IsAt Crtc d.crtcs id both → other.old
+    ≡ both.old → length d.crtcs ≡ 4
     → record d { crtcs = set d.crtcs (id - first_id Crtc) (Some other) } ≡ after_value d id prop value
     → is_kept prop ≡ true → prop ≢ CRTC_ID
-    → ((t : Topology) (things : List Thing) (before after : List Setting) (number : ℤ) → StandsFor things value number → Puts before after id prop number → both.new ≡ crtc_state_at t things before id → other.new ≡ crtc_state_at t things after id)
+    → ((t : Topology) (things : List Thing) (before after : List Setting) (number : ℤ) → StandsFor things value number
+    → Puts before after id prop number → both.new ≡ crtc_state_at t things before id → other.new ≡ crtc_state_at t things after id)
     → IsSet d (set_to id prop value) (record d { crtcs = set d.crtcs (id - first_id Crtc) (Some other) })
 sets_crtc d id prop value both other there old few states kept apart changes =
     let is : id ≡ object_id Crtc (id - first_id Crtc) = omega (arith, there.from) in
     let within : id - first_id Crtc < length d.crtcs = slice_get_within d.crtcs (id - first_id Crtc) (Some both) there.at in
     set_is d (record d { crtcs = set d.crtcs (id - first_id Crtc) (Some other) }) id prop value kept states
-    (ap (λ xs. record { crtcs = xs; planes = (old_states d).planes; conns = (old_states d).conns }) (olds-set d.crtcs (id - first_id Crtc) both other there.at old))
+    (ap (λ xs. record { crtcs = xs; planes = (old_states d).planes; conns = (old_states d).conns })
+    (olds-set d.crtcs (id - first_id Crtc) both other there.at old))
     (λ t things values number room agrees stands.
     let after : List Setting = put values id prop number in
     let puts : Puts values after id prop number = Puts-put values id prop number in
     record {
-      crtcs = AreNew-set (λ c. crtc_state_at t things values (object_id Crtc c)) (λ c. crtc_state_at t things after (object_id Crtc c)) d.crtcs (id - first_id Crtc) other agrees.crtcs
+      crtcs = AreNew-set (λ c. crtc_state_at t things values (object_id Crtc c)) (λ c. crtc_state_at t things after (object_id Crtc c))
+          d.crtcs (id - first_id Crtc) other agrees.crtcs
           (λ c h ne. crtc_state_at-other t things values after id prop (object_id Crtc c) number puts (λ e. ne (omega (arith, e))) apart)
-          (changes t things values after number stands puts (agrees.crtcs (id - first_id Crtc) both there.at ∙ ap (crtc_state_at t things values) (sym is)) ∙ ap (crtc_state_at t things after) is);
-      planes = AreNew-same (λ i. plane_at things values (object_id Plane i)) (λ i. plane_at things after (object_id Plane i)) d.planes agrees.planes
+          (changes t things values after number stands puts
+          (agrees.crtcs (id - first_id Crtc) both there.at ∙ ap (crtc_state_at t things values) (sym is)) ∙ ap
+          (crtc_state_at t things after) is);
+      planes = AreNew-same (λ i. plane_at things values (object_id Plane i)) (λ i. plane_at things after (object_id Plane i)) d.planes
+          agrees.planes
           (λ k h. plane_at-other things values after id prop (object_id Plane k) number puts (λ e. omega (arith, e, within, few)));
       conns = AreNew-same (λ i. conn_state_at values (object_id Conn i)) (λ i. conn_state_at after (object_id Conn i)) d.conns agrees.conns
           (λ i h. ap (λ crtc. record { crtc = crtc }) (crtc_at-kept values after id prop (object_id Conn i) number puts apart));
     })
 
 -- Each property's value after a set.
-pub value_after : (before after : List Setting) (object prop q : ℕ) (number : ℤ) → Puts before after object prop number → value after object q ≡ (if prop == q then number else value before object q)
+pub value_after : (before after : List Setting) (object prop q : ℕ) (number : ℤ) → Puts before after object prop number
+    → value after object q ≡ (if prop == q then number else value before object q)
 value_after before after object prop q number puts =
     elim (cases_eq prop q) [
-      | inl same ↦ ap (value after object) (sym same) ∙ puts.at ∙ sym (ap (λ b. if b then number else value before object q) (eq-eqb prop q same))
-      | inr other ↦ puts.other_prop q (λ e. other (sym e)) ∙ sym (ap (λ b. if b then number else value before object q) (ne_eqb prop q other))
+      | inl same ↦ ap (value after object) (sym same) ∙ puts.at ∙ sym
+          (ap (λ b. if b then number else value before object q) (eq-eqb prop q same))
+      | inr other ↦ puts.other_prop q (λ e. other (sym e)) ∙ sym
+          (ap (λ b. if b then number else value before object q) (ne_eqb prop q other))
     ]
 
 pub plane_after : (things : List Thing) (before after : List Setting) (object prop : ℕ) (number : ℤ) → Puts before after object prop number
     → plane_at things after object ≡ plane_from (λ q. if prop == q then number else value before object q) things
-plane_after things before after object prop number puts = ap (λ v. plane_from v things) (fun_ext (λ q. value_after before after object prop q number puts))
+plane_after things before after object prop number puts = ap (λ v. plane_from v things)
+    (fun_ext (λ q. value_after before after object prop q number puts))
 
 natural_if : (b : Bool) (x y : ℤ) → natural (if b then x else y) ≡ (if b then natural x else natural y)
 natural_if true x y = refl
 natural_if false x y = refl
 
 -- a plane's state after one of its numbers is set
-pub number_plane : (things : List Thing) (before after : List Setting) (object prop : ℕ) (n : ℤ) → Puts before after object prop n → prop ≢ FB_ID → prop ≢ CRTC_ID
+pub number_plane : (things : List Thing) (before after : List Setting) (object prop : ℕ) (n : ℤ) → Puts before after object prop n
+    → prop ≢ FB_ID → prop ≢ CRTC_ID
     → plane_after_set prop n (plane_at things before object) ≡ plane_at things after object
 number_plane things before after object prop n puts other_fb other_crtc =
     let v : ℕ → ℤ = value before object in
     sym (plane_after things before after object prop n puts
-    ∙ rw (ne_eqb prop FB_ID other_fb, ne_eqb prop CRTC_ID other_crtc, natural_if (prop == ALPHA) n (v ALPHA), natural_if (prop == BLEND) n (v BLEND), natural_if (prop == ZPOS) n (v ZPOS)) refl)
+    ∙ rw (
+      ne_eqb prop FB_ID other_fb,
+      ne_eqb prop CRTC_ID other_crtc,
+      natural_if (prop == ALPHA) n (v ALPHA),
+      natural_if (prop == BLEND) n (v BLEND),
+      natural_if (prop == ZPOS) n (v ZPOS),
+    ) refl)
 
-pub fb_plane : (things : List Thing) (before after : List Setting) (object : ℕ) (fb : Option FbInfo) (number : ℤ) → Puts before after object FB_ID number → framebuffer_of (thing_numbered things number) ≡ fb
+pub fb_plane : (things : List Thing) (before after : List Setting) (object : ℕ) (fb : Option FbInfo) (number : ℤ)
+    → Puts before after object FB_ID number → framebuffer_of (thing_numbered things number) ≡ fb
     → record (plane_at things before object) { fb = fb } ≡ plane_at things after object
 fb_plane things before after object fb number puts stands =
     sym (plane_after things before after object FB_ID number puts ∙ ap (λ x. record (plane_at things before object) { fb = x }) stands)
 
-pub crtc_plane : (things : List Thing) (before after : List Setting) (object crtc : ℕ) (number : ℤ) → Puts before after object CRTC_ID number → number ≡ pos crtc
+pub crtc_plane : (things : List Thing) (before after : List Setting) (object crtc : ℕ) (number : ℤ)
+    → Puts before after object CRTC_ID number → number ≡ pos crtc
     → record (plane_at things before object) { crtc = crtc } ≡ plane_at things after object
 crtc_plane things before after object crtc number puts stands =
-    sym (plane_after things before after object CRTC_ID number puts ∙ ap (λ x. record (plane_at things before object) { crtc = natural x }) stands)
+    sym (plane_after things before after object CRTC_ID number puts ∙ ap (λ x. record (plane_at things before object) { crtc = natural x })
+    stands)
 
 -- an object that a device has, by its kind
 there_by_kind : (t : Topology) (id : ℕ) (kind : Kind) → kind_of id ≡ kind → HasObject t id → id - first_id kind < count_of t kind
-there_by_kind t id kind is room = ltb-true (id - first_id kind) (count_of t kind) (subst (λ k. exists t k (id - first_id k) ≡ true) is room.there)
+there_by_kind t id kind is room = ltb-true (id - first_id kind) (count_of t kind)
+    (subst (λ k. exists t k (id - first_id k) ≡ true) is room.there)
 
 -- the CRTCs after CRTC_ID of a plane or a connector is set
-moves_crtcs : (t : Topology) (things : List Thing) (before after : List Setting) (kind : Kind) (index from target : ℕ) (number : ℤ) (crtcs : List (Option (Both CrtcState)))
+moves_crtcs : (t : Topology) (things : List Thing) (before after : List Setting) (kind : Kind) (index from target : ℕ) (number : ℤ)
+    (crtcs : List (Option (Both CrtcState)))
     → IsRouted kind → length t.planes ≤ 16 → index < count_of t kind → count_of t kind ≤ 16 → length crtcs ≡ 4
     → Puts before after (object_id kind index) CRTC_ID number → number ≡ pos target → from ≡ crtc_at before (object_id kind index)
     → AreNew (λ c. crtc_state_at t things before (object_id Crtc c)) crtcs
@@ -186,7 +222,8 @@ conn_moved d id target both there kind =
     (ap (new_number (λ (s : ConnState). s.crtc)) (state_of-at Conn d.conns id both there.from there.at))
 
 -- CRTC_ID of a plane
-pub moves_plane : (d : Duplicates) (id target : ℕ) (both : Both PlaneState) → IsAt Plane d.planes id both → length d.crtcs ≡ 4 → length d.planes ≡ 16
+pub moves_plane : (d : Duplicates) (id target : ℕ) (both : Both PlaneState) → IsAt Plane d.planes id both → length d.crtcs ≡ 4
+    → length d.planes ≡ 16
     → IsSet d (set_to id CRTC_ID (to.Crtc target)) (record d {
       planes = set d.planes (id - first_id Plane) (Some (record both { new = record both.new { crtc = target } }));
       crtcs = rerouted d.crtcs Plane (id - first_id Plane) both.new.crtc target;
@@ -197,25 +234,32 @@ moves_plane d id target both there few many =
     let within : index < length d.planes = slice_get_within d.planes index (Some both) there.at in
     let kind : kind_of id ≡ Plane = kind-plane id there.from (omega arith) in
     let other : Both PlaneState = record both { new = record both.new { crtc = target } } in
-    set_is d (record d { planes = set d.planes index (Some other); crtcs = rerouted d.crtcs Plane index both.new.crtc target }) id CRTC_ID (to.Crtc target) refl
+    set_is d (record d { planes = set d.planes index (Some other); crtcs = rerouted d.crtcs Plane index both.new.crtc target }) id CRTC_ID
+    (to.Crtc target) refl
     (sym (plane_moved d id target both there kind))
-    (ap₂ (λ xs ys. record { crtcs = xs; planes = ys; conns = (old_states d).conns }) (olds-rerouted d.crtcs Plane index both.new.crtc target) (olds-set d.planes index both other there.at refl))
+    (ap₂ (λ xs ys. record { crtcs = xs; planes = ys; conns = (old_states d).conns })
+    (olds-rerouted d.crtcs Plane index both.new.crtc target) (olds-set d.planes index both other there.at refl))
     (λ t things values number room agrees stands.
     let after : List Setting = put values id CRTC_ID number in
     let puts : Puts values after id CRTC_ID number = Puts-put values id CRTC_ID number in
     let puts_at : Puts values after (object_id Plane index) CRTC_ID number = subst (λ o. Puts values after o CRTC_ID number) is puts in
     let was : both.new ≡ plane_at things values (object_id Plane index) = agrees.planes index both there.at in
-    let new : record both.new { crtc = target } ≡ plane_at things after (object_id Plane index) = ap (λ (s : PlaneState). record s { crtc = target }) was ∙ crtc_plane things values after (object_id Plane index) target number puts_at stands in
+    let new : record both.new { crtc = target } ≡ plane_at things after (object_id Plane index) = ap
+    (λ (s : PlaneState). record s { crtc = target }) was ∙ crtc_plane things values after (object_id Plane index) target number puts_at
+    stands in
     record {
-      crtcs = moves_crtcs t things values after Plane index both.new.crtc target number d.crtcs tt room.planes (there_by_kind t id Plane kind room) room.planes few puts_at stands (ap (λ s. s.crtc) was) agrees.crtcs;
-      planes = AreNew-set (λ i. plane_at things values (object_id Plane i)) (λ i. plane_at things after (object_id Plane i)) d.planes index other agrees.planes
+      crtcs = moves_crtcs t things values after Plane index both.new.crtc target number d.crtcs tt room.planes
+          (there_by_kind t id Plane kind room) room.planes few puts_at stands (ap (λ s. s.crtc) was) agrees.crtcs;
+      planes = AreNew-set (λ i. plane_at things values (object_id Plane i)) (λ i. plane_at things after (object_id Plane i)) d.planes index
+          other agrees.planes
           (λ k h ne. plane_at-other things values after id CRTC_ID (object_id Plane k) number puts (λ e. ne (omega (arith, e)))) new;
       conns = AreNew-same (λ i. conn_state_at values (object_id Conn i)) (λ i. conn_state_at after (object_id Conn i)) d.conns agrees.conns
           (λ i h. conn_state_at-other values after id CRTC_ID (object_id Conn i) number puts (λ e. omega (arith, e, within, many)));
     })
 
 -- CRTC_ID of a connector
-pub moves_conn : (d : Duplicates) (id target : ℕ) (both : Both ConnState) → IsAt Conn d.conns id both → length d.crtcs ≡ 4 → length d.planes ≡ 16 → length d.conns ≡ 8
+pub moves_conn : (d : Duplicates) (id target : ℕ) (both : Both ConnState) → IsAt Conn d.conns id both → length d.crtcs ≡ 4 → length d.planes
+    ≡ 16 → length d.conns ≡ 8
     → IsSet d (set_to id CRTC_ID (to.Crtc target)) (record d {
       conns = set d.conns (id - first_id Conn) (Some (record both { new = record both.new { crtc = target } }));
       crtcs = rerouted d.crtcs Conn (id - first_id Conn) both.new.crtc target;
@@ -226,36 +270,45 @@ moves_conn d id target both there few most many =
     let within : index < length d.conns = slice_get_within d.conns index (Some both) there.at in
     let kind : kind_of id ≡ Conn = kind-conn id there.from (omega arith) in
     let other : Both ConnState = record both { new = record both.new { crtc = target } } in
-    set_is d (record d { conns = set d.conns index (Some other); crtcs = rerouted d.crtcs Conn index both.new.crtc target }) id CRTC_ID (to.Crtc target) refl
+    set_is d (record d { conns = set d.conns index (Some other); crtcs = rerouted d.crtcs Conn index both.new.crtc target }) id CRTC_ID
+    (to.Crtc target) refl
     (sym (conn_moved d id target both there kind))
-    (ap₂ (λ xs ys. record { crtcs = xs; planes = (old_states d).planes; conns = ys }) (olds-rerouted d.crtcs Conn index both.new.crtc target) (olds-set d.conns index both other there.at refl))
+    (ap₂ (λ xs ys. record { crtcs = xs; planes = (old_states d).planes; conns = ys })
+    (olds-rerouted d.crtcs Conn index both.new.crtc target) (olds-set d.conns index both other there.at refl))
     (λ t things values number room agrees stands.
     let after : List Setting = put values id CRTC_ID number in
     let puts : Puts values after id CRTC_ID number = Puts-put values id CRTC_ID number in
     let puts_at : Puts values after (object_id Conn index) CRTC_ID number = subst (λ o. Puts values after o CRTC_ID number) is puts in
     let was : both.new ≡ conn_state_at values (object_id Conn index) = agrees.conns index both there.at in
     record {
-      crtcs = moves_crtcs t things values after Conn index both.new.crtc target number d.crtcs tt room.planes (there_by_kind t id Conn kind room) (omega (arith, room.conns)) few puts_at stands (ap (λ s. s.crtc) was) agrees.crtcs;
-      planes = AreNew-same (λ i. plane_at things values (object_id Plane i)) (λ i. plane_at things after (object_id Plane i)) d.planes agrees.planes
-          (λ k h. plane_at-other things values after id CRTC_ID (object_id Plane k) number puts (λ e. omega (arith, e, h, most, there.from)));
-      conns = AreNew-set (λ i. conn_state_at values (object_id Conn i)) (λ i. conn_state_at after (object_id Conn i)) d.conns index other agrees.conns
+      crtcs = moves_crtcs t things values after Conn index both.new.crtc target number d.crtcs tt room.planes
+          (there_by_kind t id Conn kind room) (omega (arith, room.conns)) few puts_at stands (ap (λ s. s.crtc) was) agrees.crtcs;
+      planes = AreNew-same (λ i. plane_at things values (object_id Plane i)) (λ i. plane_at things after (object_id Plane i)) d.planes
+          agrees.planes
+          (λ k h. plane_at-other things values after id CRTC_ID (object_id Plane k) number puts
+          (λ e. omega (arith, e, h, most, there.from)));
+      conns = AreNew-set (λ i. conn_state_at values (object_id Conn i)) (λ i. conn_state_at after (object_id Conn i)) d.conns index other
+          agrees.conns
           (λ k h ne. conn_state_at-other values after id CRTC_ID (object_id Conn k) number puts (λ e. ne (omega (arith, e))))
           (ap (λ c. record { crtc = c }) (sym (ap natural (puts_at.at ∙ stands))));
     })
 
 -- the bits of a number are 0 where it is 0
 pub is_zero : (z : ℤ) → SFits w64 z → (of_z w64 z == 0) ≡ int_eq z (pos 0)
-is_zero z fits = same_from_decides (of_z w64 z == 0) (int_eq z (pos 0)) (Decides-like (of_z w64 z == 0) (zero_of z fits) (λ e. ap (of_z w64) e) (Decides-eqb (of_z w64 z) 0)) (Decides-int_eq z (pos 0)) where
-  zero_of : (z : ℤ) → SFits w64 z → of_z w64 z ≡ 0 → z ≡ pos 0
-  zero_of (pos n) fits e = ap pos e
-  zero_of (negsuc n) fits e = absurd (omega (arith, fits.sfits, e))
+is_zero z fits = same_from_decides (of_z w64 z == 0) (int_eq z (pos 0))
+    (Decides-like (of_z w64 z == 0) (zero_of z fits) (λ e. ap (of_z w64) e) (Decides-eqb (of_z w64 z) 0)) (Decides-int_eq z (pos 0)) where
+      zero_of : (z : ℤ) → SFits w64 z → of_z w64 z ≡ 0 → z ≡ pos 0
+      zero_of (pos n) fits e = ap pos e
+      zero_of (negsuc n) fits e = absurd (omega (arith, fits.sfits, e))
 
 -- ACTIVE of a CRTC
-pub active_crtc : (t : Topology) (things : List Thing) (before after : List Setting) (object : ℕ) (n number : ℤ) → SFits w64 n → Puts before after object ACTIVE number → number ≡ n
+pub active_crtc : (t : Topology) (things : List Thing) (before after : List Setting) (object : ℕ) (n number : ℤ) → SFits w64 n
+    → Puts before after object ACTIVE number → number ≡ n
     → record (crtc_state_at t things before object) { active = not (of_z w64 n == 0) } ≡ crtc_state_at t things after object
 active_crtc t things before after object n number fits puts stands =
     let apart : ACTIVE ≢ CRTC_ID = λ e. omega (arith, e) in
-    sym (same_crtc_state (crtc_state_at t things after object) (record (crtc_state_at t things before object) { active = not (of_z w64 n == 0) })
+    sym (same_crtc_state (crtc_state_at t things after object)
+    (record (crtc_state_at t things before object) { active = not (of_z w64 n == 0) })
     (ap (λ z. not (int_eq z (pos 0))) (puts.at ∙ stands) ∙ ap not (sym (is_zero n fits)))
     (ap (λ z. mode_of (thing_numbered things z)) (puts.other_prop MODE_ID (λ e. omega (arith, e))))
     (ap (λ z. gamma_of (thing_numbered things z)) (puts.other_prop GAMMA_LUT (λ e. omega (arith, e))))
@@ -263,7 +316,8 @@ active_crtc t things before after object n number fits puts stands =
     (on_crtc-same t before after object Conn (λ k within. crtc_at-kept before after object ACTIVE (object_id Conn k) number puts apart)))
 
 -- MODE_ID of a CRTC
-pub mode_crtc : (t : Topology) (things : List Thing) (before after : List Setting) (object : ℕ) (mode : Option Mode) (number : ℤ) → Puts before after object MODE_ID number → mode_of (thing_numbered things number) ≡ mode
+pub mode_crtc : (t : Topology) (things : List Thing) (before after : List Setting) (object : ℕ) (mode : Option Mode) (number : ℤ)
+    → Puts before after object MODE_ID number → mode_of (thing_numbered things number) ≡ mode
     → record (crtc_state_at t things before object) { mode = mode } ≡ crtc_state_at t things after object
 mode_crtc t things before after object mode number puts stands =
     let apart : MODE_ID ≢ CRTC_ID = λ e. omega (arith, e) in
@@ -275,7 +329,8 @@ mode_crtc t things before after object mode number puts stands =
     (on_crtc-same t before after object Conn (λ k within. crtc_at-kept before after object MODE_ID (object_id Conn k) number puts apart)))
 
 -- GAMMA_LUT of a CRTC
-pub gamma_crtc : (t : Topology) (things : List Thing) (before after : List Setting) (object : ℕ) (gamma : Option Gamma) (number : ℤ) → Puts before after object GAMMA_LUT number → gamma_of (thing_numbered things number) ≡ gamma
+pub gamma_crtc : (t : Topology) (things : List Thing) (before after : List Setting) (object : ℕ) (gamma : Option Gamma) (number : ℤ)
+    → Puts before after object GAMMA_LUT number → gamma_of (thing_numbered things number) ≡ gamma
     → record (crtc_state_at t things before object) { gamma = gamma } ≡ crtc_state_at t things after object
 gamma_crtc t things before after object gamma number puts stands =
     let apart : GAMMA_LUT ≢ CRTC_ID = λ e. omega (arith, e) in
@@ -283,40 +338,53 @@ gamma_crtc t things before after object gamma number puts stands =
     (ap (λ z. not (int_eq z (pos 0))) (puts.other_prop ACTIVE (λ e. omega (arith, e))))
     (ap (λ z. mode_of (thing_numbered things z)) (puts.other_prop MODE_ID (λ e. omega (arith, e))))
     (ap (λ z. gamma_of (thing_numbered things z)) puts.at ∙ stands)
-    (on_crtc-same t before after object Plane (λ k within. crtc_at-kept before after object GAMMA_LUT (object_id Plane k) number puts apart))
+    (on_crtc-same t before after object Plane (λ k within. crtc_at-kept before after object GAMMA_LUT (object_id Plane k) number puts
+    apart))
     (on_crtc-same t before after object Conn (λ k within. crtc_at-kept before after object GAMMA_LUT (object_id Conn k) number puts apart)))
 
 -- a set of one property, as a set
-pub as_set : (d after : Duplicates) (s : Set) (prop : ℕ) (value : SetValue) → s.prop ≡ prop → s.value ≡ value → IsSet d (set_to s.object.0 prop value) after → IsSet d s after
-as_set d after s prop value same_prop same_value is = subst₂ (λ p v. IsSet d (record { object = s.object; prop = p; value = v }) after) (sym same_prop) (sym same_value) is
+pub as_set : (d after : Duplicates) (s : Set) (prop : ℕ) (value : SetValue) → s.prop ≡ prop → s.value ≡ value
+    → IsSet d (set_to s.object.0 prop value) after → IsSet d s after
+as_set d after s prop value same_prop same_value is = subst₂ (λ p v. IsSet d (record { object = s.object; prop = p; value = v }) after)
+    (sym same_prop) (sym same_value) is
 
 -- ACTIVE of a CRTC that is duplicated at its place
 pub active_after : (d : Duplicates) (id : ℕ) (n : ℤ) (both : Both CrtcState) → IsAt Crtc d.crtcs id both → length d.crtcs ≡ 4 → SFits w64 n
-    → record d { crtcs = set d.crtcs (id - first_id Crtc) (Some (with_new (λ s. record s { active = not (of_z w64 n == 0) }) both)) } ≡ after_value d id ACTIVE (to.Num n)
+    → record d { crtcs = set d.crtcs (id - first_id Crtc) (Some (with_new (λ s. record s { active = not (of_z w64 n == 0) }) both)) }
+    ≡ after_value d id ACTIVE (to.Num n)
 active_after d id n both there few fits =
     let within : id - first_id Crtc < length d.crtcs = slice_get_within d.crtcs (id - first_id Crtc) (Some both) there.at in
     let kind : kind_of id ≡ Crtc = kind-crtc id (omega (arith, within, few)) in
     sym (ap (λ k. after_number k d id ACTIVE n) kind
-    ∙ ap (λ xs. record d { crtcs = xs }) (changed-at Crtc d.crtcs id both (λ s. record s { active = not (int_eq n (pos 0)) }) there.from there.at)
-    ∙ ap (λ b. record d { crtcs = set d.crtcs (id - first_id Crtc) (Some (with_new (λ s. record s { active = not b }) both)) }) (sym (is_zero n fits)))
+    ∙ ap (λ xs. record d { crtcs = xs }) (changed-at Crtc d.crtcs id both (λ s. record s { active = not (int_eq n (pos 0)) }) there.from
+    there.at)
+    ∙ ap (λ b. record d { crtcs = set d.crtcs (id - first_id Crtc) (Some (with_new (λ s. record s { active = not b }) both)) })
+    (sym (is_zero n fits)))
 
 -- MODE_ID of a CRTC that is duplicated at its place
 pub mode_after : (d : Duplicates) (id : ℕ) (mode : Option Mode) (both : Both CrtcState) → IsAt Crtc d.crtcs id both
-    → record d { crtcs = set d.crtcs (id - first_id Crtc) (Some (with_new (λ s. record s { mode = mode }) both)) } ≡ after_value d id MODE_ID (to.Mode mode)
-mode_after d id mode both there = ap (λ xs. record d { crtcs = xs }) (sym (changed-at Crtc d.crtcs id both (λ s. record s { mode = mode }) there.from there.at))
+    → record d { crtcs = set d.crtcs (id - first_id Crtc) (Some (with_new (λ s. record s { mode = mode }) both)) }
+    ≡ after_value d id MODE_ID (to.Mode mode)
+mode_after d id mode both there = ap (λ xs. record d { crtcs = xs })
+    (sym (changed-at Crtc d.crtcs id both (λ s. record s { mode = mode }) there.from there.at))
 
 -- GAMMA_LUT of a CRTC that is duplicated at its place
 pub gamma_after : (d : Duplicates) (id : ℕ) (gamma : Option Gamma) (both : Both CrtcState) → IsAt Crtc d.crtcs id both
-    → record d { crtcs = set d.crtcs (id - first_id Crtc) (Some (with_new (λ s. record s { gamma = gamma }) both)) } ≡ after_value d id GAMMA_LUT (to.Gamma gamma)
-gamma_after d id gamma both there = ap (λ xs. record d { crtcs = xs }) (sym (changed-at Crtc d.crtcs id both (λ s. record s { gamma = gamma }) there.from there.at))
+    → record d { crtcs = set d.crtcs (id - first_id Crtc) (Some (with_new (λ s. record s { gamma = gamma }) both)) }
+    ≡ after_value d id GAMMA_LUT (to.Gamma gamma)
+gamma_after d id gamma both there = ap (λ xs. record d { crtcs = xs })
+    (sym (changed-at Crtc d.crtcs id both (λ s. record s { gamma = gamma }) there.from there.at))
 
 -- FB_ID of a plane that is duplicated at its place
 pub fb_after : (d : Duplicates) (id : ℕ) (fb : Option FbInfo) (both : Both PlaneState) → IsAt Plane d.planes id both
-    → record d { planes = set d.planes (id - first_id Plane) (Some (with_new (λ s. record s { fb = fb }) both)) } ≡ after_value d id FB_ID (to.Fb fb)
-fb_after d id fb both there = ap (λ xs. record d { planes = xs }) (sym (changed-at Plane d.planes id both (λ s. record s { fb = fb }) there.from there.at))
+    → record d { planes = set d.planes (id - first_id Plane) (Some (with_new (λ s. record s { fb = fb }) both)) }
+    ≡ after_value d id FB_ID (to.Fb fb)
+fb_after d id fb both there = ap (λ xs. record d { planes = xs })
+    (sym (changed-at Plane d.planes id both (λ s. record s { fb = fb }) there.from there.at))
 
 -- a number of a plane that is duplicated at its place
-pub number_after : (d : Duplicates) (id prop : ℕ) (n : ℤ) (both : Both PlaneState) (new : PlaneState) → IsAt Plane d.planes id both → length d.planes ≡ 16 → new ≡ plane_after_set prop n both.new
+pub number_after : (d : Duplicates) (id prop : ℕ) (n : ℤ) (both : Both PlaneState) (new : PlaneState) → IsAt Plane d.planes id both
+    → length d.planes ≡ 16 → new ≡ plane_after_set prop n both.new
     → record d { planes = set d.planes (id - first_id Plane) (Some (record both { new = new })) } ≡ after_value d id prop (to.Num n)
 number_after d id prop n both new there many is =
     let within : id - first_id Plane < length d.planes = slice_get_within d.planes (id - first_id Plane) (Some both) there.at in
@@ -338,7 +406,8 @@ pub record MaySet (d : Duplicates) (s : Set) (value : SetValue) : Type 0 where
   pub there : is_duplicated d s.object.0 ≡ true
   pub takes : takes (kind_of s.object.0) s.prop value ≡ true
 
-pub made : (d : Duplicates) (s : Set) (value : SetValue) → is_duplicated d s.object.0 ≡ true → may_set (kind_of s.object.0) s.prop s.value ≡ true → s.value ≡ value → MaySet d s value
+pub made : (d : Duplicates) (s : Set) (value : SetValue) → is_duplicated d s.object.0 ≡ true → may_set (kind_of s.object.0) s.prop s.value
+    ≡ true → s.value ≡ value → MaySet d s value
 made d s value there may is = record {
   there = there;
   takes = may_set-takes (kind_of s.object.0) s.prop value (subst (λ v. may_set (kind_of s.object.0) s.prop v ≡ true) is may);
@@ -363,25 +432,29 @@ gamma_kind Conn prop gamma h = absurd (false≢true h)
 gamma_kind Enc prop gamma h = absurd (false≢true h)
 
 -- a set of FB_ID is one of a plane
-pub fb_set : (d : Duplicates) (s : Set) (fb : Option FbInfo) → MaySet d s (to.Fb fb) → (is_some (state_of Plane d.planes s.object.0) ≡ true) × (s.prop ≡ FB_ID)
+pub fb_set : (d : Duplicates) (s : Set) (fb : Option FbInfo) → MaySet d s (to.Fb fb) → (is_some (state_of Plane d.planes s.object.0) ≡ true)
+    × (s.prop ≡ FB_ID)
 fb_set d s fb may =
     let kind : (kind_of s.object.0 ≡ Plane) × (s.prop ≡ FB_ID) = fb_kind (kind_of s.object.0) s.prop fb may.takes in
     (there d s.object.0 Plane kind.0 may.there, kind.1)
 
 -- a set of MODE_ID is one of a CRTC
-pub mode_set : (d : Duplicates) (s : Set) (mode : Option Mode) → MaySet d s (to.Mode mode) → (is_some (state_of Crtc d.crtcs s.object.0) ≡ true) × (s.prop ≡ MODE_ID)
+pub mode_set : (d : Duplicates) (s : Set) (mode : Option Mode) → MaySet d s (to.Mode mode)
+    → (is_some (state_of Crtc d.crtcs s.object.0) ≡ true) × (s.prop ≡ MODE_ID)
 mode_set d s mode may =
     let kind : (kind_of s.object.0 ≡ Crtc) × (s.prop ≡ MODE_ID) = mode_kind (kind_of s.object.0) s.prop mode may.takes in
     (there d s.object.0 Crtc kind.0 may.there, kind.1)
 
 -- a set of GAMMA_LUT is one of a CRTC
-pub gamma_set : (d : Duplicates) (s : Set) (gamma : Option Gamma) → MaySet d s (to.Gamma gamma) → (is_some (state_of Crtc d.crtcs s.object.0) ≡ true) × (s.prop ≡ GAMMA_LUT)
+pub gamma_set : (d : Duplicates) (s : Set) (gamma : Option Gamma) → MaySet d s (to.Gamma gamma)
+    → (is_some (state_of Crtc d.crtcs s.object.0) ≡ true) × (s.prop ≡ GAMMA_LUT)
 gamma_set d s gamma may =
     let kind : (kind_of s.object.0 ≡ Crtc) × (s.prop ≡ GAMMA_LUT) = gamma_kind (kind_of s.object.0) s.prop gamma may.takes in
     (there d s.object.0 Crtc kind.0 may.there, kind.1)
 
 -- a set of a number of a CRTC is one of ACTIVE
-pub active_set : (d : Duplicates) (s : Set) (n : ℤ) → s.object.0 < 200 → MaySet d s (to.Num n) → (is_some (state_of Crtc d.crtcs s.object.0) ≡ true) × (s.prop ≡ ACTIVE)
+pub active_set : (d : Duplicates) (s : Set) (n : ℤ) → s.object.0 < 200 → MaySet d s (to.Num n)
+    → (is_some (state_of Crtc d.crtcs s.object.0) ≡ true) × (s.prop ≡ ACTIVE)
 active_set d s n below may =
     let kind : kind_of s.object.0 ≡ Crtc = kind-crtc s.object.0 below in
     (there d s.object.0 Crtc kind may.there, eqb-true s.prop ACTIVE (subst (λ k. takes k s.prop (to.Num n) ≡ true) kind may.takes))
@@ -393,32 +466,39 @@ number_kind Conn id prop n is from h = absurd (false≢true h)
 number_kind Enc id prop n is from h = absurd (false≢true h)
 
 -- any other set of a number is one of a plane
-pub number_set : (d : Duplicates) (s : Set) (n : ℤ) → 200 ≤ s.object.0 → MaySet d s (to.Num n) → (kind_of s.object.0 ≡ Plane) × (is_some (state_of Plane d.planes s.object.0) ≡ true)
+pub number_set : (d : Duplicates) (s : Set) (n : ℤ) → 200 ≤ s.object.0 → MaySet d s (to.Num n) → (kind_of s.object.0 ≡ Plane)
+    × (is_some (state_of Plane d.planes s.object.0) ≡ true)
 number_set d s n from may =
     let kind : kind_of s.object.0 ≡ Plane = number_kind (kind_of s.object.0) s.object.0 s.prop n refl from may.takes in
     (kind, there d s.object.0 Plane kind may.there)
 
-plane_kind : (kind : Kind) (id prop crtc : ℕ) → kind_of id ≡ kind → id < 300 → takes kind prop (to.Crtc crtc) ≡ true → (kind ≡ Plane) × (prop ≡ CRTC_ID)
+plane_kind : (kind : Kind) (id prop crtc : ℕ) → kind_of id ≡ kind → id < 300 → takes kind prop (to.Crtc crtc) ≡ true → (kind ≡ Plane)
+    × (prop ≡ CRTC_ID)
 plane_kind Crtc id prop crtc is below h = absurd (false≢true h)
 plane_kind Plane id prop crtc is below h = (refl, eqb-true prop CRTC_ID h)
 plane_kind Conn id prop crtc is below h = absurd (let range : (300 ≤ id) × (id < 400) = has_kind Conn id is in omega (arith, range.0))
 plane_kind Enc id prop crtc is below h = absurd (false≢true h)
 
-conn_kind : (kind : Kind) (id prop crtc : ℕ) → kind_of id ≡ kind → 300 ≤ id → takes kind prop (to.Crtc crtc) ≡ true → (kind ≡ Conn) × (prop ≡ CRTC_ID)
+conn_kind : (kind : Kind) (id prop crtc : ℕ) → kind_of id ≡ kind → 300 ≤ id → takes kind prop (to.Crtc crtc) ≡ true → (kind ≡ Conn)
+    × (prop ≡ CRTC_ID)
 conn_kind Crtc id prop crtc is from h = absurd (false≢true h)
 conn_kind Plane id prop crtc is from h = absurd (let range : (200 ≤ id) × (id < 300) = has_kind Plane id is in omega (arith, range.1))
 conn_kind Conn id prop crtc is from h = (refl, eqb-true prop CRTC_ID h)
 conn_kind Enc id prop crtc is from h = absurd (false≢true h)
 
 -- a set of CRTC_ID is one of a plane or of a connector
-pub plane_move : (d : Duplicates) (s : Set) (crtc : ℕ) → s.object.0 < 300 → MaySet d s (to.Crtc crtc) → (is_some (state_of Plane d.planes s.object.0) ≡ true) × (s.prop ≡ CRTC_ID)
+pub plane_move : (d : Duplicates) (s : Set) (crtc : ℕ) → s.object.0 < 300 → MaySet d s (to.Crtc crtc)
+    → (is_some (state_of Plane d.planes s.object.0) ≡ true) × (s.prop ≡ CRTC_ID)
 plane_move d s crtc below may =
-    let kind : (kind_of s.object.0 ≡ Plane) × (s.prop ≡ CRTC_ID) = plane_kind (kind_of s.object.0) s.object.0 s.prop crtc refl below may.takes in
+    let kind : (kind_of s.object.0 ≡ Plane) × (s.prop ≡ CRTC_ID) = plane_kind (kind_of s.object.0) s.object.0 s.prop crtc refl below
+    may.takes in
     (there d s.object.0 Plane kind.0 may.there, kind.1)
 
-pub conn_move : (d : Duplicates) (s : Set) (crtc : ℕ) → 300 ≤ s.object.0 → MaySet d s (to.Crtc crtc) → (is_some (state_of Conn d.conns s.object.0) ≡ true) × (s.prop ≡ CRTC_ID)
+pub conn_move : (d : Duplicates) (s : Set) (crtc : ℕ) → 300 ≤ s.object.0 → MaySet d s (to.Crtc crtc)
+    → (is_some (state_of Conn d.conns s.object.0) ≡ true) × (s.prop ≡ CRTC_ID)
 conn_move d s crtc from may =
-    let kind : (kind_of s.object.0 ≡ Conn) × (s.prop ≡ CRTC_ID) = conn_kind (kind_of s.object.0) s.object.0 s.prop crtc refl from may.takes in
+    let kind : (kind_of s.object.0 ≡ Conn) × (s.prop ≡ CRTC_ID) = conn_kind (kind_of s.object.0) s.object.0 s.prop crtc refl from may.takes
+    in
     (there d s.object.0 Conn kind.0 may.there, kind.1)
 
 fence_kind : (kind : Kind) (prop : ℕ) → takes kind prop to.Fence ≡ true → is_kept prop ≡ false

@@ -1,6 +1,7 @@
 -- What a set changes. From: "Atomic Mode Setting"; `drm_atomic_uapi.c`, drm_atomic_plane_set_property,
 -- drm_atomic_crtc_set_property, drm_atomic_set_crtc_for_plane, drm_atomic_set_crtc_for_connector.
-use Rattle.std.specs.Prelude.{◌≡◌, ℕ, ◌-◌, ◌^◌, ◌≤◌, set, option_map, Bool, true, false, not, ◌==◌, bit_and, bit_or, ℤ, pos, List, length, Option, Some, None, IsTrue, if◌then◌else◌}
+use Rattle.std.specs.Prelude.{◌≡◌, ℕ, ◌-◌, ◌^◌, ◌≤◌, set, option_map, Bool, true, false, not, ◌==◌, bit_and, bit_or, ℤ, pos, List, length}
+use Rattle.std.specs.Prelude.{Option, Some, None, IsTrue, if◌then◌else◌}
 use Rattle.std.specs.Ordering.{int_eq}
 use Rattle.kms_model.specs.declared.objects.Kind.{Kind}
 use Rattle.kms_model.specs.declared.objects.Kind.TheVariants.{Crtc, Plane, Conn, Enc}

@@ -1,6 +1,7 @@
 -- Where duplicated states of objects are kept. From: "Atomic Mode Setting"; drm_atomic_get_existing_crtc_state and its
 -- like.
-use Rattle.std.specs.Prelude.{ℕ, ◌-◌, Bool, true, false, nat_le, List, map, replicate, set, slice_get, Option, Some, None, is_some, option_map, if◌then◌else◌}
+use Rattle.std.specs.Prelude.{ℕ, ◌-◌, Bool, true, false, nat_le, List, map, replicate, set, slice_get, Option, Some, None, is_some}
+use Rattle.std.specs.Prelude.{option_map, if◌then◌else◌}
 use Rattle.kms_model.specs.Device.Places.{alike, state_at}
 use Rattle.kms_model.specs.declared.objects.Kind.{Kind}
 use Rattle.kms_model.specs.declared.objects.Kind.TheVariants.{Crtc, Plane, Conn, Enc}

@@ -4,7 +4,9 @@
 //! The type `Duplicates` stands in `kms_model`; the trait [`Duplicating`] gives it its calls. No call takes memory.
 #![tactic(auto)]
 
+mod in_place;
 mod places;
 mod sets;
 
+pub use in_place::InPlace;
 pub use places::Duplicating;

@@ -17,7 +17,9 @@ use Rattle.kms_model.specs.Request.Groups.{affected_group, named_group, set_grou
 use Rattle.kms_request.specs.Groups.{objects_set}
 use Rattle.kms_check.specs.Lacking.{lacking}
 use Rattle.kms_check.proofs.Readiness.{HasRoom, covered, ready}
-use Rattle.kms_check.proofs.Conclusions.{applied, asked-lacking, room-same, set-lacking, first-set, first-named, first-affected, asked-first, HasSets, named-known, named-lacking, HasApplied, affected-lacking, affected-known, refusal-known}
+use Rattle.kms_check.proofs.Conclusions.{applied, asked-lacking, room-same, set-lacking, first-set, first-named, first-affected}
+use Rattle.kms_check.proofs.Conclusions.{asked-first, HasSets, named-known, named-lacking, HasApplied, affected-lacking, affected-known}
+use Rattle.kms_check.proofs.Conclusions.{refusal-known}
 use Rattle.kms_check.proofs.PlaneRanges.{fresh-in_range, looked_at-in_range}
 use Rattle.kms_request.proofs.AffectedLemmas.{touched-known}
 use Rattle.kms_request.proofs.SetGroups.{objects_set-is}
@@ -32,10 +34,11 @@ set_found c w r is = set-lacking _ w r _ _ _ _ _ is c.as_slice-sets.ensures.valu
 
 -- What the first group tells, and the second, where nothing of them is lacking
 
-record NamedKnown (t : Topology) (w : World) (r : Request) (resolved : Resolved) (d : Duplicates) (named : ℕ) (found : Option Mask) : Type 0 where
-  has : HasSets t w r resolved d
-  named_is : named ≡ named_by t w r
-  named_found : lacking d (named_group t w r) ≡ found
+record NamedKnown (t : Topology) (w : World) (r : Request) (resolved : Resolved) (d : Duplicates) (named : ℕ) (found : Option Mask) : Type 0
+  where
+    has : HasSets t w r resolved d
+    named_is : named ≡ named_by t w r
+    named_found : lacking d (named_group t w r) ≡ found
 
 named_known : (c : After-lacking-2) (w : World) (r : Request) → IsOfRequest c.args.topology.now w r c.args.resolved.now c.args.states.now
     → NamedKnown c.args.topology.now w r c.args.resolved.now c.args.states.now c.named-named.result c.lacking-2.result
@@ -47,12 +50,15 @@ named_known c w r is =
       planes = c.have_places.ensures.planes;
       conns = c.have_places.ensures.conns;
     } in
-    let lacks : lacking d (set_group t r) ≡ c.lacking.result = set-lacking t w r c.args.resolved.now d _ _ _ is c.as_slice-sets.ensures.value c.objects_set-set.ensures c.lacking.ensures in
+    let lacks : lacking d (set_group t r) ≡ c.lacking.result = set-lacking t w r c.args.resolved.now d _ _ _ is
+    c.as_slice-sets.ensures.value c.objects_set-set.ensures c.lacking.ensures in
     let has : HasSets t w r c.args.resolved.now d = record { is = is; room = room; none = lacks ∙ c.in_default.is } in
-    let named_is : c.named-named.result ≡ named_by t w r = named-known t w r c.args.resolved.now d c.named-named.result has c.named-named.ensures in
+    let named_is : c.named-named.result ≡ named_by t w r = named-known t w r c.args.resolved.now d c.named-named.result has
+    c.named-named.ensures in
     record { has = has; named_is = named_is; named_found = named-lacking t w r d _ _ _ named_is c.only_crtcs.ensures c.lacking-2.ensures }
 
-record AllKnown (t : Topology) (w : World) (r : Request) (resolved : Resolved) (d d' : Duplicates) (named : ℕ) (found : Option Mask) : Type 0 where
+record AllKnown (t : Topology) (w : World) (r : Request) (resolved : Resolved) (d d' : Duplicates) (named : ℕ) (found : Option Mask) : Type
+    0 where
   applied_to : HasApplied t w r resolved d d' named
   affected_found : lacking d (affected_group t w r) ≡ found
 
@@ -72,7 +78,11 @@ all_known c w r is known =
       stand = applied t w r c.args.resolved.now d d' is c.requires.fresh set_all c.apply.ensures.old;
       same = c.apply.ensures.old;
     } in
-    record { applied_to = applied_to; affected_found = affected-lacking t w r c.args.resolved.now d d' _ _ _ applied_to c.affected-affected.ensures c.lacking-3.ensures }
+    record {
+      applied_to = applied_to;
+      affected_found = affected-lacking t w r c.args.resolved.now d d' _ _ _ applied_to
+          c.affected-affected.ensures c.lacking-3.ensures;
+    }
 
 pub returns-in-Some-clause-locks : goal.returns-in-Some-clause-locks
 returns-in-Some-clause-locks c = λ w r is.
@@ -138,11 +148,13 @@ known c w r is all =
     c.objects_set-set.ensures ∙ ap objects_set c.as_slice-sets.ensures.value
     ∙ objects_set-is t (look_up w) r c.args.resolved.now is.device is.asks in
     let affected_is : c.affected-affected.result ≡ affected_group t w r =
-    affected-known t w r c.args.resolved.now c.args.states.now c.apply.new.states c.named-named.result _ all.applied_to c.affected-affected.ensures in
+    affected-known t w r c.args.resolved.now c.args.states.now c.apply.new.states c.named-named.result _ all.applied_to
+    c.affected-affected.ensures in
     record {
       applied_to = all.applied_to;
       none = all.affected_found ∙ c.in_default-lacking-2.is;
-      touched_is = touched-known t w r _ _ _ _ _ _ set_is all.applied_to.named_is c.only_crtcs-2.ensures affected_is c.union.ensures c.union-touched.ensures;
+      touched_is = touched-known t w r _ _ _ _ _ _ set_is all.applied_to.named_is c.only_crtcs-2.ensures affected_is c.union.ensures
+          c.union-touched.ensures;
     }
 
 pub returns-in-Some-late_refusal-clause-locks : goal.returns-in-Some-late_refusal-clause-locks
@@ -162,14 +174,16 @@ returns-in-Some-late_refusal-clause-refusal c = λ w r is none.
     let at = goal.at.returns-in-Some-late_refusal-clause-refusal c in
     let known = known at.After-union-touched w r is (all_known at.After-lacking-3 w r is (named_known at.After-lacking-2 w r is)) in
     let found = rw c.of_request.ensures at c.late_refusal.ensures in
-    refusal-known _ w r _ _ _ _ _ _ _ _ known.applied_to known.none known.touched_is c.as_slice.ensures.value c.crtcs_fenced.ensures (ap refusal_number (sym c.in-Some-late_refusal.is) ∙ found)
+    refusal-known _ w r _ _ _ _ _ _ _ _ known.applied_to known.none known.touched_is c.as_slice.ensures.value c.crtcs_fenced.ensures
+    (ap refusal_number (sym c.in-Some-late_refusal.is) ∙ found)
 
 pub returns-in-None-clause-refusal : goal.returns-in-None-clause-refusal
 returns-in-None-clause-refusal c = λ w r is none.
     let at = goal.at.returns-in-None-clause-refusal c in
     let known = known at.After-union-touched w r is (all_known at.After-lacking-3 w r is (named_known at.After-lacking-2 w r is)) in
     let found = rw c.of_request.ensures at c.late_refusal.ensures in
-    refusal-known _ w r _ _ _ _ _ _ _ _ known.applied_to known.none known.touched_is c.as_slice.ensures.value c.crtcs_fenced.ensures (ap refusal_number (sym c.in-None.is) ∙ found)
+    refusal-known _ w r _ _ _ _ _ _ _ _ known.applied_to known.none known.touched_is c.as_slice.ensures.value c.crtcs_fenced.ensures
+    (ap refusal_number (sym c.in-None.is) ∙ found)
 
 pub returns-in-None-clause-checked : goal.returns-in-None-clause-checked
 returns-in-None-clause-checked c = λ w r is.

@@ -12,4 +12,5 @@ loop-index-init g c = refl
 pub loop-index-preserved : goal.loop-index-preserved
 loop-index-preserved g c =
     let wide : c.loop-index.index < 32 = omega arith in
-    rw (c.loop-index.invariant, c.bit_if-missing.ensures, c.is_not_duplicated.ensures) (bit-more (λ index. has_bit c.args.mask index && is_none (state_at c.args.states.now index)) c.loop-index.index wide)
+    rw (c.loop-index.invariant, c.bit_if-missing.ensures, c.is_not_duplicated.ensures)
+    (bit-more (λ index. has_bit c.args.mask index && is_none (state_at c.args.states.now index)) c.loop-index.index wide)

@@ -11,7 +11,8 @@ loop-place-init c = refl
 
 pub loop-place-preserved : goal.loop-place-preserved
 loop-place-preserved c =
-    none_more (member_at c.args.objects.now) c.loop-place.place c.loop-place.invariant (member-not c.args.objects.now c.loop-place.place (sym c.has_object.ensures ∙ c.if-has_object.false))
+    none_more (member_at c.args.objects.now) c.loop-place.place c.loop-place.invariant
+    (member-not c.args.objects.now c.loop-place.place (sym c.has_object.ensures ∙ c.if-has_object.false))
 
 pub returns-then-has_object : goal.returns-then-has_object
 returns-then-has_object c =

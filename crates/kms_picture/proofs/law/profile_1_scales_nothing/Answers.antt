@@ -7,4 +7,5 @@ pub returns-clause-before : goal.returns-clause-before
 returns-clause-before c = each_unscaled
 
 pub returns-clause-after : goal.returns-clause-after
-returns-clause-after c = λ t w client command one lawful. each_unscaled t (execute t w client command).world one (execution_keeps_lawful t w client command lawful).sound
+returns-clause-after c = λ t w client command one lawful. each_unscaled t (execute t w client command).world one
+    (execution_keeps_lawful t w client command lawful).sound

@@ -8,4 +8,6 @@ pub returns : goal.returns
 unfolding in_fences
 returns g c =
     let few = has_few c.args.topology.now c.requires.limits in
-    rw (← c.len.ensures) (IfOk-weaker c.listed.result _ _ (λ listed lists. lists (in_fence (g.L.Looker.meaning c.args.found.now) c.args.assigns.now) (λ index less. c.in_fence_numbers-numbers.ensures index (omega (arith, few.planes)))) c.listed.ensures)
+    rw (← c.len.ensures) (IfOk-weaker c.listed.result _ _
+    (λ listed lists. lists (in_fence (g.L.Looker.meaning c.args.found.now) c.args.assigns.now)
+    (λ index less. c.in_fence_numbers-numbers.ensures index (omega (arith, few.planes)))) c.listed.ensures)

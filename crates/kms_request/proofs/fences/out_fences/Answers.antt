@@ -9,4 +9,5 @@ pub returns : goal.returns
 unfolding out_fences
 returns c =
     let few = has_few c.args.topology.now c.requires.limits in
-    IfOk-weaker c.listed.result _ _ (λ listed lists. lists (out_fence_label c.args.assigns.now) (λ index less. c.out_fence_numbers-numbers.ensures index (omega (arith, few.crtcs)))) c.listed.ensures
+    IfOk-weaker c.listed.result _ _ (λ listed lists. lists (out_fence_label c.args.assigns.now)
+    (λ index less. c.out_fence_numbers-numbers.ensures index (omega (arith, few.crtcs)))) c.listed.ensures

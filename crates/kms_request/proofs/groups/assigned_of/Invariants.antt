@@ -9,4 +9,5 @@ use Rattle.kms_request.proofs.groups.assigned_of.Given as goal
 -- the objects of those so far that count
 abbrev pub invariant-loop-a : goal.invariant-loop-a
 invariant-loop-a g l =
-    l.assigned ≡ mask_below (λ index. list_any (λ a. g.P.Picker.picked l.picks a && (object_of a == object_id l.kind index)) (take l.a-index l.assigns)) (most_of l.kind)
+    l.assigned ≡ mask_below (λ index. list_any (λ a. g.P.Picker.picked l.picks a && (object_of a == object_id l.kind index))
+    (take l.a-index l.assigns)) (most_of l.kind)

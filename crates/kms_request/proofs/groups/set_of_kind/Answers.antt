@@ -9,4 +9,5 @@ loop-set-init c = none_yet (most_of c.args.kind)
 pub loop-set-preserved : goal.loop-set-preserved
 loop-set-preserved c =
     rw (c.loop-set.invariant, c.only_of-set_so_far.ensures)
-    (items-more (λ i s. s.object.0 == object_id c.args.kind i) c.args.sets.now c.loop-set.set-index (most_of c.args.kind) _ c.loop-set-test.true)
+    (items-more (λ i s. s.object.0 == object_id c.args.kind i) c.args.sets.now c.loop-set.set-index (most_of c.args.kind) _
+    c.loop-set-test.true)

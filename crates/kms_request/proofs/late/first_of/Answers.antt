@@ -10,7 +10,8 @@ use Rattle.kms_request.proofs.IndexLemmas.{first_from-more}
 use Rattle.kms_request.proofs.late.first_of.Goals as goal
 
 -- the planes that a step looks at are in range
-looked_at : (t : Topology) (d : Duplicates) (planes : ℕ) (step : OrderStep) (index : ℕ) → ArePlanesInRange t d planes → index < count_of_step t step → IsLookedAtInRange step (duplicate_in planes d.planes index)
+looked_at : (t : Topology) (d : Duplicates) (planes : ℕ) (step : OrderStep) (index : ℕ) → ArePlanesInRange t d planes → index
+    < count_of_step t step → IsLookedAtInRange step (duplicate_in planes d.planes index)
 looked_at t d planes Planes index fit within = fit index within
 looked_at t d planes Shown index fit within = fit index within
 looked_at t d planes Crtcs index fit within = tt
@@ -20,10 +21,14 @@ looked_at t d planes Routes index fit within = tt
 
 pub refusal_at-requires : goal.refusal_at-requires
 refusal_at-requires c =
-    let within : c.loop-index.index < count_of_step c.args.topology.now c.args.step = rw c.count_of_step-index-end.ensures at c.loop-index-test.true in
+    let within : c.loop-index.index < count_of_step c.args.topology.now c.args.step = rw c.count_of_step-index-end.ensures at
+    c.loop-index-test.true in
     looked_at c.args.topology.now c.args.states.now c.args.objects.now.planes c.args.step c.loop-index.index c.requires within
 
 pub loop-index-preserved : goal.loop-index-preserved
 loop-index-preserved c =
-    let within : c.loop-index.index < count_of_step c.args.topology.now c.args.step = rw c.count_of_step-index-end.ensures at c.loop-index-test.true in
-    first_from-more (refusal_at c.args.topology.now c.args.states.now c.args.objects.now c.args.asked c.args.step) c.loop-index.index (count_of_step c.args.topology.now c.args.step) _ within (sym c.refusal_at.ensures ∙ ap refusal_number c.in_default.is) c.loop-index.invariant
+    let within : c.loop-index.index < count_of_step c.args.topology.now c.args.step = rw c.count_of_step-index-end.ensures at
+    c.loop-index-test.true in
+    first_from-more (refusal_at c.args.topology.now c.args.states.now c.args.objects.now c.args.asked c.args.step) c.loop-index.index
+    (count_of_step c.args.topology.now c.args.step) _ within (sym c.refusal_at.ensures ∙ ap refusal_number c.in_default.is)
+    c.loop-index.invariant

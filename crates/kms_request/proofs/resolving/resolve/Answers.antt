@@ -14,11 +14,13 @@ returns-in_err-last_sets-clause-refused_by c = λ f same.
 
 pub returns-in_err-in_fences-clause-refused_by : goal.returns-in_err-in_fences-clause-refused_by
 returns-in_err-in_fences-clause-refused_by c = λ f same.
-    answer-refused c.args.topology.now (look_in c.args.found.now) f c.args.request.now c.from_residual-in_err-in_fences.result same (search rules)
+    answer-refused c.args.topology.now (look_in c.args.found.now) f c.args.request.now c.from_residual-in_err-in_fences.result same
+    (search rules)
 
 pub returns-in_err-out_fences-clause-refused_by : goal.returns-in_err-out_fences-clause-refused_by
 returns-in_err-out_fences-clause-refused_by c = λ f same.
-    answer-refused c.args.topology.now (look_in c.args.found.now) f c.args.request.now c.from_residual-in_err-out_fences.result same (search rules)
+    answer-refused c.args.topology.now (look_in c.args.found.now) f c.args.request.now c.from_residual-in_err-out_fences.result same
+    (search rules)
 
 pub returns-clause-resolved_by : goal.returns-clause-resolved_by
 returns-clause-resolved_by c = λ f same.

@@ -12,13 +12,20 @@ loop-left-init g c = record {
 pub loop-left-preserved : goal.loop-left-preserved
 loop-left-preserved g c = record {
   within = omega (arith, c.loop-left-test.true, c.loop-left.invariant.within);
-  sets = sets_again (g.L.Looker.meaning c.args.found.now) c.args.assigns.now c.loop-left.left _ c.loop-left.sets.items c.loop-left-test.true c.loop-left.invariant.within (sym c.if-mark.false ∙ c.mark.ensures.new (drop c.loop-left.left c.args.assigns.now) c.loop-left.invariant.marks) c.loop-left.invariant.sets;
-  marks = marks_before c.args.assigns.now c.loop-left.left _ c.mark.new.marks c.loop-left-test.true c.loop-left.invariant.within (c.mark.ensures.marked (drop c.loop-left.left c.args.assigns.now) c.loop-left.invariant.marks);
+  sets = sets_again (g.L.Looker.meaning c.args.found.now) c.args.assigns.now c.loop-left.left _ c.loop-left.sets.items c.loop-left-test.true
+      c.loop-left.invariant.within (sym c.if-mark.false ∙ c.mark.ensures.new (drop c.loop-left.left c.args.assigns.now)
+      c.loop-left.invariant.marks) c.loop-left.invariant.sets;
+  marks = marks_before c.args.assigns.now c.loop-left.left _ c.mark.new.marks c.loop-left-test.true c.loop-left.invariant.within
+      (c.mark.ensures.marked (drop c.loop-left.left c.args.assigns.now) c.loop-left.invariant.marks);
 }
 
 pub loop-left-preserved-in-Continue-branch-2 : goal.loop-left-preserved-in-Continue-branch-2
 loop-left-preserved-in-Continue-branch-2 g c = record {
   within = omega (arith, c.loop-left-test.true, c.loop-left.invariant.within);
-  sets = rw (c.in_ok-push.ensures.items, c.set_of.ensures.set) (sets_new (g.L.Looker.meaning c.args.found.now) c.args.assigns.now c.loop-left.left _ c.loop-left.sets.items c.loop-left-test.true c.loop-left.invariant.within (sym c.if-mark.true ∙ c.mark.ensures.new (drop c.loop-left.left c.args.assigns.now) c.loop-left.invariant.marks) c.loop-left.invariant.sets);
-  marks = marks_before c.args.assigns.now c.loop-left.left _ c.mark.new.marks c.loop-left-test.true c.loop-left.invariant.within (c.mark.ensures.marked (drop c.loop-left.left c.args.assigns.now) c.loop-left.invariant.marks);
+  sets = rw (c.in_ok-push.ensures.items, c.set_of.ensures.set)
+      (sets_new (g.L.Looker.meaning c.args.found.now) c.args.assigns.now c.loop-left.left _ c.loop-left.sets.items c.loop-left-test.true
+      c.loop-left.invariant.within (sym c.if-mark.true ∙ c.mark.ensures.new (drop c.loop-left.left c.args.assigns.now)
+      c.loop-left.invariant.marks) c.loop-left.invariant.sets);
+  marks = marks_before c.args.assigns.now c.loop-left.left _ c.mark.new.marks c.loop-left-test.true c.loop-left.invariant.within
+      (c.mark.ensures.marked (drop c.loop-left.left c.args.assigns.now) c.loop-left.invariant.marks);
 }

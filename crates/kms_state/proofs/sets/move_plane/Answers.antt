@@ -13,5 +13,7 @@ returns-in-Some c =
     let before : Duplicates = c.args.states.now in
     let index : ℕ = c.args.id - 200 in
     let enter : Duplicates → Duplicates = λ d. record d { crtcs = changed Crtc d.crtcs c.args.crtc (with_routed Plane index true) } in
-    subst (IsSet before (set_to c.args.id CRTC_ID (to.Crtc c.args.crtc))) (sym (c.put_routed-in-Some.ensures ∙ ap enter c.put_routed.ensures))
-    (moves_plane before c.args.id c.args.crtc c.in-Some.both (is_at Plane before.planes c.args.id c.in-Some.both c.requires c.in-Some.ensures) (omega arith) (omega arith))
+    subst (IsSet before (set_to c.args.id CRTC_ID (to.Crtc c.args.crtc)))
+    (sym (c.put_routed-in-Some.ensures ∙ ap enter c.put_routed.ensures))
+    (moves_plane before c.args.id c.args.crtc c.in-Some.both
+    (is_at Plane before.planes c.args.id c.in-Some.both c.requires c.in-Some.ensures) (omega arith) (omega arith))

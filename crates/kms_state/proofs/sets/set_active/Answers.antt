@@ -14,5 +14,8 @@ returns-in-Some c =
     let both : Both CrtcState = c.in-Some.both in
     sets_crtc c.args.states.now c.args.id ACTIVE (to.Num c.args.number) both (record both { new = on both.new })
     (is_at Crtc c.args.states.now.crtcs c.args.id both c.requires c.in-Some.ensures) refl (omega arith)
-    (active_after c.args.states.now c.args.id c.args.number both (is_at Crtc c.args.states.now.crtcs c.args.id both c.requires c.in-Some.ensures) (omega arith) c.ranges.number) refl (λ e. omega (arith, e))
-    (λ t things before after number stands puts was. ap on was ∙ active_crtc t things before after c.args.id c.args.number number c.ranges.number puts stands)
+    (active_after c.args.states.now c.args.id c.args.number both
+    (is_at Crtc c.args.states.now.crtcs c.args.id both c.requires c.in-Some.ensures) (omega arith) c.ranges.number) refl
+    (λ e. omega (arith, e))
+    (λ t things before after number stands puts was. ap on was ∙ active_crtc t things before after c.args.id c.args.number number
+    c.ranges.number puts stands)

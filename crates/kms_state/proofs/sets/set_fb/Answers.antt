@@ -14,5 +14,6 @@ returns-in-Some c =
     let both : Both PlaneState = c.in-Some.both in
     sets_plane c.args.states.now c.args.id FB_ID (to.Fb c.args.fb) both (record both { new = with_fb both.new })
     (is_at Plane c.args.states.now.planes c.args.id both c.requires c.in-Some.ensures) refl (omega arith)
-    (fb_after c.args.states.now c.args.id c.args.fb both (is_at Plane c.args.states.now.planes c.args.id both c.requires c.in-Some.ensures)) refl (λ e. omega (arith, e))
+    (fb_after c.args.states.now c.args.id c.args.fb both (is_at Plane c.args.states.now.planes c.args.id both c.requires c.in-Some.ensures))
+    refl (λ e. omega (arith, e))
     (λ things before after number stands puts was. ap with_fb was ∙ fb_plane things before after c.args.id c.args.fb number puts stands)

@@ -14,5 +14,7 @@ returns-in-Some c =
     let both : Both CrtcState = c.in-Some.both in
     sets_crtc c.args.states.now c.args.id GAMMA_LUT (to.Gamma c.args.gamma) both (record both { new = with_gamma both.new })
     (is_at Crtc c.args.states.now.crtcs c.args.id both c.requires c.in-Some.ensures) refl (omega arith)
-    (gamma_after c.args.states.now c.args.id c.args.gamma both (is_at Crtc c.args.states.now.crtcs c.args.id both c.requires c.in-Some.ensures)) refl (λ e. omega (arith, e))
-    (λ t things before after number stands puts was. ap with_gamma was ∙ gamma_crtc t things before after c.args.id c.args.gamma number puts stands)
+    (gamma_after c.args.states.now c.args.id c.args.gamma both
+    (is_at Crtc c.args.states.now.crtcs c.args.id both c.requires c.in-Some.ensures)) refl (λ e. omega (arith, e))
+    (λ t things before after number stands puts was. ap with_gamma was ∙ gamma_crtc t things before after c.args.id c.args.gamma number puts
+    stands)

@@ -14,5 +14,7 @@ returns-in-Some c =
     let both : Both CrtcState = c.in-Some.both in
     sets_crtc c.args.states.now c.args.id MODE_ID (to.Mode c.args.mode) both (record both { new = with_mode both.new })
     (is_at Crtc c.args.states.now.crtcs c.args.id both c.requires c.in-Some.ensures) refl (omega arith)
-    (mode_after c.args.states.now c.args.id c.args.mode both (is_at Crtc c.args.states.now.crtcs c.args.id both c.requires c.in-Some.ensures)) refl (λ e. omega (arith, e))
-    (λ t things before after number stands puts was. ap with_mode was ∙ mode_crtc t things before after c.args.id c.args.mode number puts stands)
+    (mode_after c.args.states.now c.args.id c.args.mode both
+    (is_at Crtc c.args.states.now.crtcs c.args.id both c.requires c.in-Some.ensures)) refl (λ e. omega (arith, e))
+    (λ t things before after number stands puts was. ap with_mode was ∙ mode_crtc t things before after c.args.id c.args.mode number puts
+    stands)

@@ -15,7 +15,8 @@ use Rattle.kms_state.proofs.sets.set_number.Goals as goal
 
 pub returns-in-Some : goal.returns-in-Some
 returns-in-Some c =
-    let parts = and_parts (is_kept c.args.prop) (not (c.args.prop == FB_ID) && not (c.args.prop == CRTC_ID)) (may_set-takes Plane c.args.prop (to.Num c.args.number) c.requires.value) in
+    let parts = and_parts (is_kept c.args.prop) (not (c.args.prop == FB_ID) && not (c.args.prop == CRTC_ID))
+    (may_set-takes Plane c.args.prop (to.Num c.args.number) c.requires.value) in
     let others = and_parts (not (c.args.prop == FB_ID)) (not (c.args.prop == CRTC_ID)) parts.1 in
     let with_number : PlaneState → PlaneState = plane_after_set c.args.prop c.args.number in
     let both : Both PlaneState = c.in-Some.both in
@@ -25,6 +26,8 @@ returns-in-Some c =
     let no_crtc = eqb-false c.args.prop CRTC_ID (not-true (c.args.prop == CRTC_ID) others.1) in
     sets_plane c.args.states.now c.args.id c.args.prop (to.Num c.args.number) both (record both { new = c.set_plane_number.new.plane })
     (is_at Plane c.args.states.now.planes c.args.id both c.requires.there c.in-Some.ensures) refl (omega arith)
-    (number_after c.args.states.now c.args.id c.args.prop c.args.number both c.set_plane_number.new.plane (is_at Plane c.args.states.now.planes c.args.id both c.requires.there c.in-Some.ensures) (omega arith) changed) parts.0 no_crtc
+    (number_after c.args.states.now c.args.id c.args.prop c.args.number both c.set_plane_number.new.plane
+    (is_at Plane c.args.states.now.planes c.args.id both c.requires.there c.in-Some.ensures) (omega arith) changed) parts.0 no_crtc
     (λ things before after number stands puts was.
-    changed ∙ ap with_number was ∙ number_plane things before after c.args.id c.args.prop c.args.number (subst (λ z. Puts before after c.args.id c.args.prop z) stands puts) no_fb no_crtc)
+    changed ∙ ap with_number was ∙ number_plane things before after c.args.id c.args.prop c.args.number
+    (subst (λ z. Puts before after c.args.id c.args.prop z) stands puts) no_fb no_crtc)
