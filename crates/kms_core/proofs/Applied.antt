@@ -1,5 +1,6 @@
 -- What legality tells of the calls that do a step.
-use Rattle.std.proofs.Common.{◌≡◌, ℕ, ◌<◌, ◌≤◌, Bool, true, false, [], ◌∷◌, length, Option, Some, None, inl, inr, refl, sym, ap, ◌∙◌, subst, arith}
+use Rattle.std.proofs.Common.{◌≡◌, ℕ, ◌<◌, ◌≤◌, Bool, true, false, [], ◌∷◌, length, Option, Some, None, inl, inr, refl, sym, ap, ◌∙◌, subst}
+use Rattle.std.proofs.Common.{arith}
 use Rattle.std.specs.Prelude.{not, ◌==◌, is_none, is_some, nat_lt, if◌then◌else◌}
 use Rattle.std.proofs.lemmas.Bool.{and_from, and_parts, cases_lt, eqb-true, false≢true, ltb-true, not-true}
 use Rattle.kms_model.specs.declared.objects.Kind.{Kind}
@@ -17,13 +18,14 @@ use Rattle.kms_model.specs.Device.Objects.{count_of, exists, first_id, index_of,
 use Rattle.kms_model.specs.Machine.Commits.{is_all_latched, is_all_written, is_claimed, is_cleaned, is_hw_done}
 use Rattle.kms_model.specs.Machine.Histories.{is_history, legal}
 use Rattle.kms_model.specs.Machine.State.{doing_at, holder_at, reserved_at, unread_at}
-use Rattle.kms_model.specs.Machine.Steps.{contended, idle_at, is_crtc_of, is_free_for, is_free_or_older, is_lockable, is_taking, is_wait, may, may_lock, must_back_off, next_flush, returning_of, taking_at, ticket_of}
+use Rattle.kms_model.specs.Machine.Steps.{contended, idle_at, is_crtc_of, is_free_for, is_free_or_older, is_lockable, is_taking, is_wait}
+use Rattle.kms_model.specs.Machine.Steps.{may, may_lock, must_back_off, next_flush, returning_of, taking_at, ticket_of}
 use Rattle.kms_model.specs.Request.Reach.{reaches}
 use Rattle.kms_model.specs.Script.WellFormed.{IsWellFormed}
 use Rattle.kms_model.proofs.Items.{IsObject, ids-in}
 use Rattle.kms_model.proofs.KindsOfIds.{index_of-object, kind_of-object}
 use Rattle.kms_model.proofs.TouchedLemmas.{HasFewObjects, few_objects}
-use Rattle.kms_clients.specs.InStep.{holder_of_contended, lock_answer, relock_answer}
+use Rattle.kms_wwlock.specs.InStep.{holder_of_contended, lock_answer, relock_answer}
 use Rattle.kms_laws.proofs.Basics.{both_bools}
 use Rattle.kms_laws.proofs.Modes.{plain-from}
 use Rattle.kms_laws.proofs.NeverStuck.{history_facts}
@@ -32,7 +34,8 @@ use Rattle.kms_laws.proofs.Steps.{flush-found, value-is}
 use Rattle.kms_wwlock.specs.declared.table.Lock.TheVariants as table
 use Rattle.kms_wwlock.specs.declared.table.Relock.TheVariants as again
 use Rattle.kms_core.specs.Calls.{MayRead, MayReturn, is_over_at, read_reply_at, read_reply, read_step, unless_ended}
-use Rattle.kms_core.specs.Locks.{MayBackOff, MayLock, MayRelock, is_step, lock_steps, locked_answer, object_or_zero, present_state, relock_steps, relocked_answer, relocked_as}
+use Rattle.kms_core.specs.Locks.{MayBackOff, MayLock, MayRelock, is_step, lock_steps, locked_answer, object_or_zero, present_state}
+use Rattle.kms_core.specs.Locks.{relock_steps, relocked_answer, relocked_as}
 use Rattle.kms_core.specs.declared.calls.contexts.Locked.{Locked}
 use Rattle.kms_core.specs.Next.{IsLegal}
 use Rattle.kms_core.specs.Run.{Run, machine}
@@ -58,7 +61,8 @@ pub record IsIdOf (id : ObjId) (kind : Kind) (index : ℕ) : Type 0 where
   pub index_is : index_of id.0 ≡ index
   pub is_id : first_id (kind_of id.0) ≤ id.0
 
-id_of : (t : Topology) (id : ObjId) (kind : Kind) (index : ℕ) → HasFewObjects t → exists t kind index ≡ true → id.0 ≡ object_id kind index → IsIdOf id kind index
+id_of : (t : Topology) (id : ObjId) (kind : Kind) (index : ℕ) → HasFewObjects t → exists t kind index ≡ true → id.0 ≡ object_id kind index
+    → IsIdOf id kind index
 id_of t id kind index few there is =
     let low = few_of t kind index few (ltb-true index (count_of t kind) there) in
     let k = ap kind_of is ∙ kind_of-object kind index low in
@@ -71,11 +75,20 @@ module _ (v : Run) where
   unfolding legal may
   back_off_is client asked = not_ended (machine v).stalled _ asked
 
-  pub back_off_there : (client : ℕ) (d : Doing) → IsLegal v (step.BackOff client) → d ≡ doing_at (machine v) client → ((t : Ticket) (object : ObjId) → d ≡ doing.MustBackOff t object → ⊥) → ⊥
+  pub back_off_there : (client : ℕ) (d : Doing) → IsLegal v (step.BackOff client) → d ≡ doing_at (machine v) client
+      → ((t : Ticket) (object : ObjId) → d ≡ doing.MustBackOff t object → ⊥) → ⊥
   back_off_there client d asked is other = both_bools (must_back_off d) (ap must_back_off is ∙ back_off_is client asked) (must_not d other)
 
-  pub back_off_asked : (client : ℕ) (d : Doing) (t : Ticket) (object : ObjId) → IsLegal v (step.BackOff client) → d ≡ doing_at (machine v) client → d ≡ doing.MustBackOff t object → MayBackOff v t
-  back_off_asked client d t object asked is must = record { client = client; object = object; must = sym is ∙ must; goes_on = legal-going v.script (machine v) (step.BackOff client) asked }
+  pub back_off_asked : (client : ℕ) (d : Doing) (t : Ticket) (object : ObjId) → IsLegal v (step.BackOff client) → d
+      ≡ doing_at (machine v) client → d ≡ doing.MustBackOff t object → MayBackOff v t
+  back_off_asked client d t object asked is must =
+      record {
+        client = client;
+        object = object;
+        must = sym is ∙ must;
+        goes_on = legal-going v.script (machine v) (step.BackOff client)
+            asked;
+      }
 
   relock_is : (client : ℕ) → IsLegal v (step.Relock client) → is_free_for (machine v) (contended (doing_at (machine v) client)) ≡ true
   unfolding legal may
@@ -88,12 +101,20 @@ module _ (v : Run) where
   contended_not (doing.BackedOff t object) other = absurd (other t object refl)
   contended_not (doing.Returning k) other = refl
 
-  pub relock_there : (client : ℕ) (d : Doing) → IsLegal v (step.Relock client) → d ≡ doing_at (machine v) client → ((t : Ticket) (object : ObjId) → d ≡ doing.BackedOff t object → ⊥) → ⊥
+  pub relock_there : (client : ℕ) (d : Doing) → IsLegal v (step.Relock client) → d ≡ doing_at (machine v) client
+      → ((t : Ticket) (object : ObjId) → d ≡ doing.BackedOff t object → ⊥) → ⊥
   relock_there client d asked is other =
       false≢true (ap (is_free_for (machine v)) (sym (contended_not d other) ∙ ap contended is) ∙ relock_is client asked)
 
-  pub relock_asked : (client : ℕ) (d : Doing) (t : Ticket) (object : ObjId) → IsLegal v (step.Relock client) → d ≡ doing_at (machine v) client → d ≡ doing.BackedOff t object → MayRelock v t
-  relock_asked client d t object asked is off = record { client = client; object = object; off = sym is ∙ off; goes_on = legal-going v.script (machine v) (step.Relock client) asked }
+  pub relock_asked : (client : ℕ) (d : Doing) (t : Ticket) (object : ObjId) → IsLegal v (step.Relock client) → d
+      ≡ doing_at (machine v) client → d ≡ doing.BackedOff t object → MayRelock v t
+  relock_asked client d t object asked is off = record {
+    client = client;
+    object = object;
+    off = sym is ∙ off;
+    goes_on = legal-going
+        v.script (machine v) (step.Relock client) asked;
+  }
 
   held_none : (h : Option ℕ) → is_none h ≡ true → relock_answer (machine v) h ≡ again.Got
   held_none None e = refl
@@ -103,10 +124,12 @@ module _ (v : Run) where
   free_got None e = absurd (false≢true e)
   free_got (Some object) e = held_none (holder_at (machine v) object) e
 
-  pub relock_done : (client : ℕ) (answer : Locked) → IsLegal v (step.Relock client) → answer ≡ relocked_answer v client → relock_steps client answer ≡ step.Relock client ∷ []
+  pub relock_done : (client : ℕ) (answer : Locked) → IsLegal v (step.Relock client) → answer ≡ relocked_answer v client
+      → relock_steps client answer ≡ step.Relock client ∷ []
   relock_done client answer asked is =
       ap (relock_steps client)
-      (is ∙ ap (λ a. relocked_as (present_state v (object_or_zero (contended (doing_at (machine v) client)))) a) (free_got (contended (doing_at (machine v) client)) (relock_is client asked)))
+      (is ∙ ap (λ a. relocked_as (present_state v (object_or_zero (contended (doing_at (machine v) client)))) a)
+      (free_got (contended (doing_at (machine v) client)) (relock_is client asked)))
 
   pub read_asked : (client : ℕ) → IsLegal v (step.Read client) → MayRead v client
   unfolding legal may
@@ -116,29 +139,37 @@ module _ (v : Run) where
   stepped client None e = absurd (false≢true e)
   stepped client (Some r) e = refl
 
-  pub read_done : (client : ℕ) (o : Option Reply) → IsLegal v (step.Read client) → o ≡ read_reply_at v client → read_step client o ≡ step.Read client ∷ []
+  pub read_done : (client : ℕ) (o : Option Reply) → IsLegal v (step.Read client) → o ≡ read_reply_at v client → read_step client o
+      ≡ step.Read client ∷ []
   unfolding legal may
   read_done client o asked is =
       stepped client o
-      (ap (λ (x : Option Reply). is_some x) (is ∙ ap (λ b. unless_ended b (read_reply (unread_at (machine v).events client) (reserved_at (machine v).events client))) (legal-going v.script (machine v) (step.Read client) asked)) ∙ answered_is (unread_at (machine v).events client) (reserved_at (machine v).events client)
+      (ap (λ (x : Option Reply). is_some x) (is ∙ ap
+      (λ b. unless_ended b (read_reply (unread_at (machine v).events client) (reserved_at (machine v).events client)))
+      (legal-going v.script (machine v) (step.Read client) asked)) ∙ answered_is (unread_at (machine v).events client)
+      (reserved_at (machine v).events client)
       ∙ (and_parts (idle_at v.script (machine v) client is_wait) _ (not_ended (machine v).stalled _ asked)).1)
 
   -- CRTCs
 
   pub vblank_kind : (kind : Kind) (index : ℕ) → IsLegal v (step.Vblank kind index) → kind ≡ Crtc
   unfolding legal may
-  vblank_kind kind index asked = crtc_kind v.script.topology kind index (and_parts (is_crtc_of v.script.topology kind index) _ (not_ended (machine v).stalled _ asked)).0
+  vblank_kind kind index asked = crtc_kind v.script.topology kind index
+      (and_parts (is_crtc_of v.script.topology kind index) _ (not_ended (machine v).stalled _ asked)).0
 
   -- Locks
 
-  pub lock_is : (client : ℕ) (kind : Kind) (index : ℕ) → IsLegal v (step.Lock client kind index) → (is_lockable v.script.topology kind index ≡ true) × (may_lock v.script (machine v) client (object_id kind index) ≡ true)
+  pub lock_is : (client : ℕ) (kind : Kind) (index : ℕ) → IsLegal v (step.Lock client kind index)
+      → (is_lockable v.script.topology kind index ≡ true) × (may_lock v.script (machine v) client (object_id kind index) ≡ true)
   unfolding legal may
   lock_is client kind index asked = and_parts (is_lockable v.script.topology kind index) _ (not_ended (machine v).stalled _ asked)
 
   locks_parts : (client object : ℕ) → may_lock v.script (machine v) client object ≡ true
-      → (taking_at v.script (machine v) client (λ r. reaches v.script.topology (machine v).device.world r object) ≡ true) × (is_free_or_older (machine v) (ticket_of (doing_at (machine v) client)) (holder_at (machine v) object) ≡ true)
+      → (taking_at v.script (machine v) client (λ r. reaches v.script.topology (machine v).device.world r object) ≡ true)
+      × (is_free_or_older (machine v) (ticket_of (doing_at (machine v) client)) (holder_at (machine v) object) ≡ true)
   unfolding may_lock
-  locks_parts client object h = and_parts (taking_at v.script (machine v) client (λ r. reaches v.script.topology (machine v).device.world r object)) _ h
+  locks_parts client object h = and_parts (taking_at v.script (machine v) client
+      (λ r. reaches v.script.topology (machine v).device.world r object)) _ h
 
   taking_not : (d : Doing) → ((t : Ticket) → d ≡ doing.Taking t → ⊥) → is_taking d ≡ false
   taking_not doing.Idle other = refl
@@ -147,45 +178,61 @@ module _ (v : Run) where
   taking_not (doing.BackedOff t object) other = refl
   taking_not (doing.Returning k) other = refl
 
-  pub lock_there : (client : ℕ) (kind : Kind) (index : ℕ) (d : Doing) → IsLegal v (step.Lock client kind index) → d ≡ doing_at (machine v) client → ((t : Ticket) → d ≡ doing.Taking t → ⊥) → ⊥
+  pub lock_there : (client : ℕ) (kind : Kind) (index : ℕ) (d : Doing) → IsLegal v (step.Lock client kind index) → d
+      ≡ doing_at (machine v) client → ((t : Ticket) → d ≡ doing.Taking t → ⊥) → ⊥
   lock_there client kind index d asked is other =
-      let takes = (and_parts (is_taking (doing_at (machine v) client)) _ (locks_parts client (object_id kind index) (lock_is client kind index asked).1).0).0 in
+      let takes = (and_parts (is_taking (doing_at (machine v) client)) _
+      (locks_parts client (object_id kind index) (lock_is client kind index asked).1).0).0 in
       both_bools (is_taking d) (ap is_taking is ∙ takes) (taking_not d other)
 
   own_not : (n : ℕ) → nat_lt n n ≡ true → ⊥
   own_not n e = (let l = ltb-true n n e in omega (arith, l))
 
-  older_event : (client : ℕ) (h : Option ℕ) → is_free_or_older (machine v) (ticket_of (doing_at (machine v) client)) h ≡ true → is_step (lock_answer (machine v) client h) ≡ true
+  older_event : (client : ℕ) (h : Option ℕ) → is_free_or_older (machine v) (ticket_of (doing_at (machine v) client)) h ≡ true
+      → is_step (lock_answer (machine v) client h) ≡ true
   older_event client None e = refl
-  older_event client (Some holder) e = at (holder == client) refl (nat_lt (ticket_of (doing_at (machine v) holder)) (ticket_of (doing_at (machine v) client))) e where
-    at : (own : Bool) → (holder == client) ≡ own → (older : Bool) → older ≡ true
-        → is_step (if own then table.Own else if older then table.Older (record { 0 = ticket_of (doing_at (machine v) holder) }) else table.Younger (record { 0 = ticket_of (doing_at (machine v) holder) })) ≡ true
-    at own is false o = absurd (false≢true o)
-    at false is true o = refl
-    at true is true o = absurd (own_not (ticket_of (doing_at (machine v) client)) (ap (λ n. nat_lt (ticket_of (doing_at (machine v) n)) (ticket_of (doing_at (machine v) client))) (sym (eqb-true holder client is)) ∙ e))
+  older_event client (Some holder) e = at (holder == client) refl
+      (nat_lt (ticket_of (doing_at (machine v) holder)) (ticket_of (doing_at (machine v) client))) e where
+        at : (own : Bool) → (holder == client) ≡ own → (older : Bool) → older ≡ true
+            → is_step (if own then table.Own else if older then table.Older (record { 0 = ticket_of (doing_at (machine v) holder) })
+            else table.Younger (record { 0 = ticket_of (doing_at (machine v) holder) })) ≡ true
+        at own is false o = absurd (false≢true o)
+        at false is true o = refl
+        at true is true o = absurd (own_not (ticket_of (doing_at (machine v) client))
+            (ap (λ n. nat_lt (ticket_of (doing_at (machine v) n)) (ticket_of (doing_at (machine v) client))) (sym (eqb-true holder client is)) ∙
+            e))
 
-  pub locked_step : (client : ℕ) (kind : Kind) (index : ℕ) (id : ObjId) (answer : Locked) → IsLegal v (step.Lock client kind index) → IsIdOf id kind index → id.0 ≡ object_id kind index → answer ≡ locked_answer v client id
+  pub locked_step : (client : ℕ) (kind : Kind) (index : ℕ) (id : ObjId) (answer : Locked) → IsLegal v (step.Lock client kind index)
+      → IsIdOf id kind index → id.0 ≡ object_id kind index → answer ≡ locked_answer v client id
       → lock_steps client id answer ≡ step.Lock client kind index ∷ []
   locked_step client kind index id answer asked named same is =
       let older = (locks_parts client (object_id kind index) (lock_is client kind index asked).1).1 in
       let event = older_event client (holder_at (machine v) (object_id kind index)) older in
       ap (lock_steps client id) is
-      ∙ steps_of_lock client id (present_state v id) (lock_answer (machine v) client (holder_at (machine v) id.0)) true (ap (λ o. is_step (lock_answer (machine v) client (holder_at (machine v) o))) same ∙ event)
+      ∙ steps_of_lock client id (present_state v id) (lock_answer (machine v) client (holder_at (machine v) id.0)) true
+      (ap (λ o. is_step (lock_answer (machine v) client (holder_at (machine v) o))) same ∙ event)
       ∙ (λ i. step.Lock client (named.kind_is i) (named.index_is i) ∷ [])
 
   -- Writes
 
   pub write_is : (k : ℕ) (kind : Kind) (index : ℕ) → IsLegal v (step.Write k kind index) → exists v.script.topology kind index ≡ true
   unfolding legal may
-  write_is k kind index asked = (and_parts (exists v.script.topology kind index) _ (and_parts (is_claimed (machine v).device k) _ (not_ended (machine v).stalled _ asked)).1).0
+  write_is k kind index asked = (and_parts (exists v.script.topology kind index) _
+      (and_parts (is_claimed (machine v).device k) _ (not_ended (machine v).stalled _ asked)).1).0
 
   written_step : (k : ℕ) (kind : Kind) (index : ℕ) (id : ObjId) → IsIdOf id kind index → write_step k id ≡ step.Write k kind index
   written_step k kind index id named = λ i. step.Write k (named.kind_is i) (named.index_is i)
 
-  pub write_named : (k : ℕ) (kind : Kind) (index : ℕ) (id : ObjId) → IsLegal v (step.Write k kind index) → IsIdOf id kind index → MayWrite v k id
-  write_named k kind index id asked named = record { is_id = named.is_id; is_legal = ap (legal v.script (machine v)) (written_step k kind index id named) ∙ asked }
+  pub write_named : (k : ℕ) (kind : Kind) (index : ℕ) (id : ObjId) → IsLegal v (step.Write k kind index) → IsIdOf id kind index
+      → MayWrite v k id
+  write_named k kind index id asked named = record {
+    is_id = named.is_id;
+    is_legal = ap (legal v.script (machine v))
+        (written_step k kind index id named) ∙ asked;
+  }
 
-  pub write_done : (k : ℕ) (kind : Kind) (index : ℕ) (id : ObjId) → IsIdOf id kind index → write_step k id ∷ [] ≡ step.Write k kind index ∷ []
+  pub write_done : (k : ℕ) (kind : Kind) (index : ℕ) (id : ObjId) → IsIdOf id kind index → write_step k id ∷ [] ≡ step.Write k kind index
+      ∷ []
   write_done k kind index id named = ap (λ (x : Step). x ∷ []) (written_step k kind index id named)
 
   -- Cleanups
@@ -202,7 +249,8 @@ module _ (v : Run) where
   return_done client asked = over (returning_of (doing_at (machine v) client)) refl where
     over : (o : Option ℕ) → returning_of (doing_at (machine v) client) ≡ o → is_over_at v client ≡ true
     over None is = absurd (false≢true (rw is at (not_ended (machine v).stalled _ asked)))
-    over (Some k) is = and_from (not (machine v).stalled) _ (ap not (legal-going v.script (machine v) (step.Return client) asked)) (rw is (rw is at (not_ended (machine v).stalled _ asked)))
+    over (Some k) is = and_from (not (machine v).stalled) _ (ap not (legal-going v.script (machine v) (step.Return client) asked))
+        (rw is (rw is at (not_ended (machine v).stalled _ asked)))
 
 -- What is asked for of a device's objects
 
@@ -212,44 +260,56 @@ few_now v formed = few_objects v.script.topology formed.device
 module _ (v : Run) (few : HasFewObjects v.script.topology) where
   pub lock_index : (client : ℕ) (kind : Kind) (index : ℕ) → IsLegal v (step.Lock client kind index) → index ≤ 255
   lock_index client kind index asked =
-      let there = ltb-true index (count_of v.script.topology kind) (lockable_exists v.script.topology kind index (lock_is v client kind index asked).0) in
+      let there = ltb-true index (count_of v.script.topology kind)
+      (lockable_exists v.script.topology kind index (lock_is v client kind index asked).0) in
       let low = few_of v.script.topology kind index few there in
       omega (arith, low)
 
-  pub lock_named : (client : ℕ) (kind : Kind) (index : ℕ) (id : ObjId) → IsLegal v (step.Lock client kind index) → id.0 ≡ object_id kind index → IsIdOf id kind index
-  lock_named client kind index id asked is = id_of v.script.topology id kind index few (lockable_exists v.script.topology kind index (lock_is v client kind index asked).0) is
+  pub lock_named : (client : ℕ) (kind : Kind) (index : ℕ) (id : ObjId) → IsLegal v (step.Lock client kind index) → id.0
+      ≡ object_id kind index → IsIdOf id kind index
+  lock_named client kind index id asked is = id_of v.script.topology id kind index few
+      (lockable_exists v.script.topology kind index (lock_is v client kind index asked).0) is
 
-  pub lock_asked : (client : ℕ) (kind : Kind) (index : ℕ) (d : Doing) (t : Ticket) (id : ObjId) → IsLegal v (step.Lock client kind index) → d ≡ doing_at (machine v) client → d ≡ doing.Taking t → id.0 ≡ object_id kind index → MayLock v t id
+  pub lock_asked : (client : ℕ) (kind : Kind) (index : ℕ) (d : Doing) (t : Ticket) (id : ObjId) → IsLegal v (step.Lock client kind index)
+      → d ≡ doing_at (machine v) client → d ≡ doing.Taking t → id.0 ≡ object_id kind index → MayLock v t id
   lock_asked client kind index d t id asked is takes same_id =
       let named = lock_named client kind index id asked same_id in
       record {
         client = client;
         taking = sym is ∙ takes;
         is_id = named.is_id;
-        lockable = ap (λ (k : Kind). is_lockable v.script.topology k (index_of id.0)) named.kind_is ∙ ap (λ n. is_lockable v.script.topology kind n) named.index_is ∙ (lock_is v client kind index asked).0;
-        reached = subst (λ n. taking_at v.script (machine v) client (λ q. reaches v.script.topology (machine v).device.world q n) ≡ true) (sym same_id) (locks_parts v client (object_id kind index) (lock_is v client kind index asked).1).0;
+        lockable = ap (λ (k : Kind). is_lockable v.script.topology k (index_of id.0)) named.kind_is ∙ ap
+            (λ n. is_lockable v.script.topology kind n) named.index_is ∙ (lock_is v client kind index asked).0;
+        reached = subst (λ n. taking_at v.script (machine v) client (λ q. reaches v.script.topology (machine v).device.world q n) ≡ true)
+            (sym same_id) (locks_parts v client (object_id kind index) (lock_is v client kind index asked).1).0;
         goes_on = legal-going v.script (machine v) (step.Lock client kind index) asked;
       }
 
   pub write_index : (k : ℕ) (kind : Kind) (index : ℕ) → IsLegal v (step.Write k kind index) → index ≤ 255
-  write_index k kind index asked = (let low = few_of v.script.topology kind index few (ltb-true index (count_of v.script.topology kind) (write_is v k kind index asked)) in omega (arith, low))
+  write_index k kind index asked = (let low = few_of v.script.topology kind index few
+      (ltb-true index (count_of v.script.topology kind) (write_is v k kind index asked)) in omega (arith, low))
 
-  pub written_named : (k : ℕ) (kind : Kind) (index : ℕ) (id : ObjId) → IsLegal v (step.Write k kind index) → id.0 ≡ object_id kind index → IsIdOf id kind index
+  pub written_named : (k : ℕ) (kind : Kind) (index : ℕ) (id : ObjId) → IsLegal v (step.Write k kind index) → id.0 ≡ object_id kind index
+      → IsIdOf id kind index
   written_named k kind index id asked is = id_of v.script.topology id kind index few (write_is v k kind index asked) is
 
-  flush_is : (k : ℕ) (kind : Kind) (index : ℕ) → IsLegal v (step.Flush k kind index) → (exists v.script.topology kind index ≡ true) × (next_flush v.script.topology (machine v).device k ≡ Some (object_id kind index))
+  flush_is : (k : ℕ) (kind : Kind) (index : ℕ) → IsLegal v (step.Flush k kind index) → (exists v.script.topology kind index ≡ true)
+      × (next_flush v.script.topology (machine v).device k ≡ Some (object_id kind index))
   unfolding legal may
   flush_is k kind index asked =
-      let parts = and_parts (exists v.script.topology kind index) _ (and_parts (is_all_written v.script.topology (machine v).device k) _ (not_ended (machine v).stalled _ asked)).1 in
+      let parts = and_parts (exists v.script.topology kind index) _
+      (and_parts (is_all_written v.script.topology (machine v).device k) _ (not_ended (machine v).stalled _ asked)).1 in
       (parts.0, value-is (object_id kind index) (next_flush v.script.topology (machine v).device k) parts.1)
 
   pub flush_kind : (k : ℕ) (kind : Kind) (index : ℕ) → IsLegal v (step.Flush k kind index) → kind ≡ Crtc
   flush_kind k kind index asked =
       let t = v.script.topology in
       let is = flush_is k kind index asked in
-      let o : IsObject t Crtc (object_id kind index) = ids-in t Crtc (object_id kind index) (flush-found t (machine v) k (object_id kind index) is.1).is_crtc in
+      let o : IsObject t Crtc (object_id kind index) = ids-in t Crtc (object_id kind index)
+      (flush-found t (machine v) k (object_id kind index) is.1).is_crtc in
       let within = o.within in
-      sym (kind_of-object kind index (few_of t kind index few (ltb-true index (count_of t kind) is.0))) ∙ ap kind_of o.same ∙ kind_of-object Crtc o.index (few_of t Crtc o.index few within)
+      sym (kind_of-object kind index (few_of t kind index few (ltb-true index (count_of t kind) is.0))) ∙ ap kind_of o.same ∙ kind_of-object
+      Crtc o.index (few_of t Crtc o.index few within)
 
 -- What a history tells besides
 
@@ -275,7 +335,8 @@ module _ (v : Run) (is : IsHistoryOf v) where
 
   inside : (client : ℕ) → (doing_at (machine v) client ≡ doing.Idle → ⊥) → (1 ≤ client) × (client ≤ length v.script.clients)
   inside client busy =
-      let rests : ((1 ≤ client) × (client ≤ length v.script.clients) → ⊥) → ⊥ = (λ away. busy (ap (λ (p : Place). p.doing) (outside v.script v.steps is.history client away))) in
+      let rests : ((1 ≤ client) × (client ≤ length v.script.clients) → ⊥)
+      → ⊥ = (λ away. busy (ap (λ (p : Place). p.doing) (outside v.script v.steps is.history client away))) in
       elim (cases_lt 0 client) [
         | inl low ↦ elim (cases_lt (length v.script.clients) client) [
           | inl above ↦ absurd (rests (λ within. (let l = within.1 in omega (arith, l, above))))

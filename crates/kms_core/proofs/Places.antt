@@ -13,8 +13,8 @@ use Rattle.kms_model.specs.Machine.Histories.{at, is_history}
 use Rattle.kms_model.specs.Machine.State.{Machine, doing_at, command_at, entry_at, place_at}
 use Rattle.kms_model.specs.Machine.Steps.{idle_at, is_idle}
 use Rattle.kms_model.specs.Script.WellFormed.{IsWellFormed}
-use Rattle.kms_clients.specs.Standing.{Standing, IsClient, place_of, ticket_in}
-use Rattle.kms_clients.specs.InStep.{AreClientsOf, HasNoContext}
+use Rattle.kms_wwlock.specs.Standing.{Standing, IsClient, place_of, ticket_in}
+use Rattle.kms_wwlock.specs.InStep.{AreClientsOf, HasNoContext}
 use Rattle.kms_laws.proofs.Steps.{idle-none, idle-some}
 use Rattle.kms_laws.proofs.SmallNumbers.{numbers_fit}
 use Rattle.kms_laws.proofs.Sizes.{command-there}
@@ -39,10 +39,16 @@ pub idle_parts : (s : Script) (m : Machine) (client : ℕ) (test : Command → B
 idle_parts s m client test e = found (command_at s m client) refl where
   found : (o : Option Command) → command_at s m client ≡ o → IdleAt s m client test
   found None is = absurd (idle-none s m client test is e)
-  found (Some c) is = record { idle = idle_is (doing_at m client) (and_parts (is_idle (doing_at m client)) _ e).0; command = c; at = is; passes = idle-some s m client test c is e }
+  found (Some c) is = record {
+    idle = idle_is (doing_at m client) (and_parts (is_idle (doing_at m client)) _ e).0;
+    command = c;
+    at = is;
+    passes = idle-some s m client test c is e;
+  }
 
 -- a client that has a command is one of the script's
-pub client_there : (s : Script) (m : Machine) (client : ℕ) (c : Command) → command_at s m client ≡ Some c → (1 ≤ client) × (client ≤ length s.clients)
+pub client_there : (s : Script) (m : Machine) (client : ℕ) (c : Command) → command_at s m client ≡ Some c → (1 ≤ client)
+    × (client ≤ length s.clients)
 client_there s m client c is = let there = command-there s (entry_at m client) c is in (there.low, omega (arith, there.high))
 
 -- its number is one that clients can have
@@ -56,14 +62,20 @@ pub record MayIdle (s : Script) (m : Machine) (client : ℕ) (st : Standing) : T
   pub command_fits : (place_of st client).command < 4294967295
 
 -- its place in the store is the machine's
-pub may_idle : (s : Script) (h : List Step) (client : ℕ) (test : Command → Bool) (st : Standing) → IsWellFormed s → is_history s h ≡ true → AreClientsOf (at s h).contexts st
+pub may_idle : (s : Script) (h : List Step) (client : ℕ) (test : Command → Bool) (st : Standing) → IsWellFormed s → is_history s h ≡ true
+    → AreClientsOf (at s h).contexts st
     → idle_at s (at s h) client test ≡ true → MayIdle s (at s h) client st
 may_idle s h client test st formed history stands asked =
     let parts = idle_parts s (at s h) client test asked in
     let is = is_client s client formed (client_there s (at s h) client parts.command parts.at) in
     let same = stands.places client is in
     let fit = (numbers_fit s h formed history).commands client in
-    record { is_client = is; idle = ap (λ (p : Place). p.doing) same ∙ parts.idle; command_fits = omega (arith, fit, ap (λ (p : Place). p.command) same) }
+    record {
+      is_client = is;
+      idle = ap (λ (p : Place). p.doing) same ∙ parts.idle;
+      command_fits = omega
+          (arith, fit, ap (λ (p : Place). p.command) same);
+    }
 
 -- a legal step of a history that was not ended
 pub not_ended : (stalled may : Bool) → (not stalled && may) ≡ true → may ≡ true
@@ -82,7 +94,8 @@ pub record IsIdleAt (r : Run) (st : Stores) (client : ℕ) (test : Command → B
   pub at : command_at r.script (machine r) client ≡ Some command
   pub passes : test command ≡ true
 
-pub idle_there : (r : Run) (st : Stores) (client : ℕ) (test : Command → Bool) → Stands r st → idle_at r.script (machine r) client test ≡ true → IsIdleAt r st client test
+pub idle_there : (r : Run) (st : Stores) (client : ℕ) (test : Command → Bool) → Stands r st → idle_at r.script (machine r) client test
+    ≡ true → IsIdleAt r st client test
 idle_there r st client test stands idle =
     let parts = idle_parts r.script (machine r) client test idle in
     let there = client_there r.script (machine r) client parts.command parts.at in

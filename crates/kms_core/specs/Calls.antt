@@ -85,7 +85,8 @@ unless_ended true answer = None
 unless_ended false answer = answer
 
 abbrev pub read_reply_at : Run → ℕ → Option Reply
-read_reply_at r client = unless_ended (machine r).stalled (read_reply (unread_at (machine r).events client) (reserved_at (machine r).events client))
+read_reply_at r client = unless_ended (machine r).stalled
+    (read_reply (unread_at (machine r).events client) (reserved_at (machine r).events client))
 
 abbrev pub read_step : ℕ → Option Reply → List Step
 read_step client None = []

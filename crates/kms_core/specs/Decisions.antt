@@ -1,7 +1,8 @@
 -- What calls that decide about a request ask for and answer. From: "Atomic Mode Setting"; `drm_atomic.c`,
 -- drm_atomic_nonblocking_commit; `drm_atomic_helper.c`, drm_atomic_helper_swap_state. That the look-ups of a request are
 -- tried again at its decision is this device's own.
-use Rattle.std.specs.Prelude.{◌≡◌, ◌≢◌, ◌⊎◌, ◌||◌, ℕ, ◌+◌, ◌<◌, ◌≤◌, not, Bool, true, false, List, [], ◌∷◌, map, Option, Some, None, if◌then◌else◌}
+use Rattle.std.specs.Prelude.{◌≡◌, ◌≢◌, ◌⊎◌, ◌||◌, ℕ, ◌+◌, ◌<◌, ◌≤◌, not, Bool, true, false, List, [], ◌∷◌, map, Option, Some, None}
+use Rattle.std.specs.Prelude.{if◌then◌else◌}
 use Rattle.std.specs.List.{filter_map}
 use Rattle.kms_model.specs.declared.replies.Refusal.{Refusal}
 use Rattle.kms_model.specs.declared.replies.Reply.{Reply}
@@ -32,7 +33,7 @@ use Rattle.kms_model.specs.Request.Resolves.{IsResolved}
 use Rattle.kms_model.specs.Request.Sets.{look_in}
 use Rattle.kms_model.specs.Request.Touched.{touches}
 use Rattle.kms_model.specs.Request.Verdict.{late_in}
-use Rattle.kms_clients.specs.Standing.{IsClient}
+use Rattle.kms_wwlock.specs.Standing.{IsClient}
 use Rattle.kms_track.specs.Places.{first_below, mask_has, object_at_place}
 use Rattle.kms_core.specs.declared.stores.looking.Decided.{Decided}
 use Rattle.kms_core.specs.declared.stores.looking.Decided.TheVariants as answer
@@ -121,12 +122,13 @@ abbrev pub HoldsAll : Machine → ℕ → Mask → Type 0
 HoldsAll m client mask = (p : ℕ) → p < 28 → mask_has mask p ≡ true → holds m client (object_at_place p) ≡ true
 
 -- What was checked, as a check gives it, which refuses nothing; the context holds what the request touches.
-pub record IsAccepted (r : Run) (t : ℕ) (used : List (ℕ × Look)) (request : Request) (resolved : Resolved) (checked : Checked) : Type 0 where
-  pub duplicates : Duplicates
-  pub given : IsGiven r used request resolved duplicates
-  pub gives : GivesChecked r.script.topology request resolved duplicates checked
-  pub passes : (w : World) → IsOfRequest r.script.topology w request resolved duplicates → late_in r.script.topology w request ≡ None
-  pub holds : HoldsAll (machine r) (taker (machine r) t) checked.touched
+pub record IsAccepted (r : Run) (t : ℕ) (used : List (ℕ × Look)) (request : Request) (resolved : Resolved) (checked : Checked) : Type 0
+  where
+    pub duplicates : Duplicates
+    pub given : IsGiven r used request resolved duplicates
+    pub gives : GivesChecked r.script.topology request resolved duplicates checked
+    pub passes : (w : World) → IsOfRequest r.script.topology w request resolved duplicates → late_in r.script.topology w request ≡ None
+    pub holds : HoldsAll (machine r) (taker (machine r) t) checked.touched
 
 pub record MayTest (r : Run) (t : ℕ) (used : List (ℕ × Look)) (checked : Checked) : Type 0 where
   pub request : Request
@@ -140,7 +142,8 @@ pub record MayTest (r : Run) (t : ℕ) (used : List (ℕ × Look)) (checked : Ch
 -- exactly where a look-up tells something else now, the request is to be decided again, with the first that does; else the
 -- answer is the decision
 abbrev pub IsDecided : (ℕ → Look) → List (ℕ × Look) → Decided → Decided → Type 0
-IsDecided now used decision (answer.Again label was current) = IsFirstStale now used (Some (record { label = label; was = was; now = current }))
+IsDecided now used decision (answer.Again label was current) = IsFirstStale now used
+    (Some (record { label = label; was = was; now = current }))
 IsDecided now used decision other = IsFirstStale now used None × (other ≡ decision)
 
 -- the steps that an answer names, of a client, where a step decides

@@ -1,6 +1,7 @@
 -- What flushes and vblanks ask for and answer, and what a latch does. From: `drm_atomic_helper.c`,
 -- drm_atomic_helper_commit_planes; `drm_vblank.c`, drm_crtc_handle_vblank and drm_crtc_send_vblank_event.
-use Rattle.std.specs.Prelude.{ℕ, ◌≡◌, ◌-◌, ◌^◌, ◌%◌, ◌<◌, ◌≤◌, Bool, true, List, length, slice_index_or, slice_set, is_some, None, Some, if◌then◌else◌}
+use Rattle.std.specs.Prelude.{ℕ, ◌≡◌, ◌-◌, ◌^◌, ◌%◌, ◌<◌, ◌≤◌, Bool, true, List, length, slice_index_or, slice_set, is_some, None, Some}
+use Rattle.std.specs.Prelude.{if◌then◌else◌}
 use Rattle.kms_model.specs.declared.objects.Kind.TheVariants.{Crtc}
 use Rattle.kms_model.specs.declared.replies.Event.{Event}
 use Rattle.kms_model.specs.declared.replies.Step.TheVariants as step

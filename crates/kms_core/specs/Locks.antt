@@ -14,8 +14,8 @@ use Rattle.kms_model.specs.Machine.Histories.{legal}
 use Rattle.kms_model.specs.Machine.State.{doing_at, holder_at, holds}
 use Rattle.kms_model.specs.Machine.Steps.{contended, is_lockable, taking_at}
 use Rattle.kms_model.specs.Request.Reach.{reaches}
-use Rattle.kms_clients.specs.InStep.{lock_answer, relock_answer, holder_of_contended}
-use Rattle.kms_clients.specs.Standing.{ticket_in}
+use Rattle.kms_wwlock.specs.InStep.{lock_answer, relock_answer, holder_of_contended}
+use Rattle.kms_wwlock.specs.Standing.{ticket_in}
 use Rattle.kms_wwlock.specs.declared.table.Lock.{Lock as TableLock}
 use Rattle.kms_wwlock.specs.declared.table.Lock.TheVariants as table
 use Rattle.kms_wwlock.specs.declared.table.Relock.{Relock as TableRelock}

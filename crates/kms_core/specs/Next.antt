@@ -1,5 +1,6 @@
 -- What is told of the next step.
-use Rattle.std.specs.Prelude.{◌≡◌, ℕ, ◌≤◌, true, false, ◌&&◌, ◌||◌, Bool, List, [], ◌∷◌, Option, Some, None, if◌then◌else◌, is_none, length, not}
+use Rattle.std.specs.Prelude.{◌≡◌, ℕ, ◌≤◌, true, false, ◌&&◌, ◌||◌, Bool, List, [], ◌∷◌, Option, Some, None, if◌then◌else◌, is_none, length}
+use Rattle.std.specs.Prelude.{not}
 use Rattle.std.specs.List.{flat_map, list_any, range_with_len}
 use Rattle.std.specs.Option.{option_map}
 use Rattle.kms_model.specs.declared.objects.Kind.{Kind}
@@ -9,7 +10,8 @@ use Rattle.kms_model.specs.declared.replies.Step.{Step}
 use Rattle.kms_model.specs.declared.replies.Step.TheVariants as step
 use Rattle.kms_model.specs.declared.scripts.Script.{Script}
 use Rattle.kms_model.specs.Device.Objects.{count_of, exists, object_id}
-use Rattle.kms_model.specs.Machine.Histories.{client_numbers, commit_numbers, is_awaited, legal, steps_of_client, steps_of_commit, steps_with_go}
+use Rattle.kms_model.specs.Machine.Histories.{client_numbers, commit_numbers, is_awaited, legal, steps_of_client, steps_of_commit}
+use Rattle.kms_model.specs.Machine.Histories.{steps_with_go}
 use Rattle.kms_model.specs.Machine.State.{Machine, has_value}
 use Rattle.kms_model.specs.Machine.Steps.{may}
 use Rattle.kms_track.specs.declared.tail.Tail.{Tail}
@@ -76,7 +78,8 @@ client_moves s m client =
 abbrev pub tail_moves : Script → Machine → ℕ → Bool
 tail_moves s m k =
     may s m (step.Claim k)
-    || (writes_some s m k Crtc || (writes_some s m k Plane || (flushes_some s m k || (may s m (step.HwDone k) || may s m (step.Cleanup k)))))
+    || (writes_some s m k Crtc || (writes_some s m k Plane
+    || (flushes_some s m k || (may s m (step.HwDone k) || may s m (step.Cleanup k)))))
 
 -- a client, the tail of a commit or a CRTC that goes has a step
 abbrev pub moves : Script → Machine → Bool

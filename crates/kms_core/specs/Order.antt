@@ -47,7 +47,8 @@ lacks t m client r g = lacks_some t m client r g Crtc || (lacks_some t m client 
 
 -- the first group that a client does not hold whole; the last one where it holds the first two
 abbrev pub first_lacked : Topology → Machine → ℕ → Request → Group
-first_lacked t m client r = if lacks t m client r group.Set then group.Set else (if lacks t m client r group.Named then group.Named else group.Affected)
+first_lacked t m client r = if lacks t m client r group.Set then group.Set
+    else (if lacks t m client r group.Named then group.Named else group.Affected)
 
 -- what a request names, affects and touches
 pub record AreNeeds (t : Topology) (w : World) (n : Needs) : Type 0 where

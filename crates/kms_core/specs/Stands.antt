@@ -18,8 +18,8 @@ use Rattle.kms_model.specs.Machine.Histories.{is_history}
 use Rattle.kms_model.specs.Machine.State.{Commit, Machine, DeviceState, Records, Events, go_at}
 use Rattle.kms_model.specs.Script.WellFormed.{IsWellFormed}
 use Rattle.kms_model.specs.Things.Tables.{AreBelow}
-use Rattle.kms_clients.specs.InStep.{AreClientsOf}
-use Rattle.kms_clients.specs.Standing.{Standing}
+use Rattle.kms_wwlock.specs.InStep.{AreClientsOf}
+use Rattle.kms_wwlock.specs.Standing.{Standing}
 use Rattle.kms_laws.specs.TailsLeft.{all_left}
 use Rattle.kms_regs.specs.File.{RegisterFile, StandsForDevice}
 use Rattle.kms_signal.specs.FenceSets.{FenceSet, is_made}

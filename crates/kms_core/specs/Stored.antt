@@ -16,7 +16,14 @@ use Rattle.kms_model.specs.Things.Tables.{value_with_id, without_id}
 -- that frees it, and one of being open.
 abbrev pub held_as : Thing → Content → Option Framebuffer
 held_as thing (content.Framebuffer info buffer) =
-    Some (record { owner = thing.owner; buffer = buffer; info = info; is_open = thing.is_open; references = if thing.is_open then 2 else 1 })
+    Some (record {
+      owner = thing.owner;
+      buffer = buffer;
+      info = info;
+      is_open = thing.is_open;
+      references = if thing.is_open then 2
+          else 1;
+    })
 held_as thing (content.Buffer width height format pattern) = None
 held_as thing (content.Mode m) = None
 held_as thing (content.Blob bytes) = None

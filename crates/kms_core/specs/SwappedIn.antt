@@ -25,7 +25,8 @@ swapped_in (Some present) (Some checked) = Some (alike checked.new)
 -- the states of all objects of a kind are so
 pub record AreSwappedIn (S : Type 0) (present checked after : List (Option (Both S))) : Type 0 where
   pub size : length after ≡ length present
-  pub at : (index : ℕ) → slice_index_or after index None ≡ swapped_in (slice_index_or present index None) (slice_index_or checked index None)
+  pub at : (index : ℕ) → slice_index_or after index None
+      ≡ swapped_in (slice_index_or present index None) (slice_index_or checked index None)
 
 pub record IsSwappedIn (present checked after : Duplicates) : Type 0 where
   pub crtcs : AreSwappedIn _ present.crtcs checked.crtcs after.crtcs

@@ -23,7 +23,7 @@ use Rattle.kms_model.specs.Request.Flags.{is_nonblock, is_test, wants_event}
 use Rattle.kms_model.specs.Request.Lookups.{look_up}
 use Rattle.kms_model.specs.Request.Resolves.{IsResolved}
 use Rattle.kms_model.specs.Request.Verdict.{verdict}
-use Rattle.kms_clients.specs.Standing.{IsClient}
+use Rattle.kms_wwlock.specs.Standing.{IsClient}
 use Rattle.kms_signal.specs.Queues.{Queue, space_used}
 use Rattle.kms_track.specs.InStep.{HasStates}
 use Rattle.kms_track.specs.MachineLaws.{awaited_answer}
@@ -84,7 +84,8 @@ waits_or_commits None k = answer.Done (reply.Commit k)
 
 abbrev pub swap_answer_of : Topology → Machine → ℕ → Option Request → Decided
 swap_answer_of t m client None = answer.Done reply.Done
-swap_answer_of t m client (Some r) = refused_or (late_reply t m client r) (waits_or_commits (awaited_answer t m r) (length m.device.commits))
+swap_answer_of t m client (Some r) = refused_or (late_reply t m client r)
+    (waits_or_commits (awaited_answer t m r) (length m.device.commits))
 
 -- what a swap of a client answers, where its look-ups tell what they told
 abbrev pub swap_answer : Run → ℕ → Decided

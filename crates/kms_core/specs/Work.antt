@@ -1,6 +1,7 @@
 -- What the calls of workers ask for and answer. From: `drm_atomic_helper.c`, commit_work and
 -- drm_atomic_helper_commit_tail.
-use Rattle.std.specs.Prelude.{ℕ, ◌≡◌, ◌≤◌, ◌<◌, ◌&&◌, ◌⊎◌, Bool, true, false, List, [], ◌∷◌, find, length, slice_index_or, ⊤, Option, Some, None}
+use Rattle.std.specs.Prelude.{ℕ, ◌≡◌, ◌≤◌, ◌<◌, ◌&&◌, ◌⊎◌, Bool, true, false, List, [], ◌∷◌, find, length, slice_index_or, ⊤, Option, Some}
+use Rattle.std.specs.Prelude.{None}
 use Rattle.kms_model.specs.declared.objects.Kind.{Kind}
 use Rattle.kms_model.specs.declared.objects.Kind.TheVariants.{Crtc, Plane}
 use Rattle.kms_model.specs.declared.objects.ObjId.{ObjId}

@@ -204,7 +204,7 @@ impl Core {
             ≡ framebuffers.stored_framebuffer self.now.script.topology (machine self.now) id }
     {
         let stores = &*self.stores;
-        stores.things.stored(id)
+        stores.things.stored_framebuffer(id)
     }
 
     /// The words of a framebuffer's buffer, also after the framebuffer was closed; none exactly where no framebuffer ever

@@ -10,12 +10,12 @@ mod waiting;
 
 use crate::lists::{Ledger, Log};
 pub use hindering::{count_in, late_reply};
-use kms_clients::Clients;
 use kms_model::{Answered, Duplicates, Latch, NoMemory, Script, Step};
 use kms_regs::RegFile;
 use kms_signal::{EventQueue, Fences};
 use kms_things::{Things, start_states};
 use kms_track::Tracker;
+use kms_wwlock::Clients;
 pub use looking::{Decided, Stale, first_stale, look_ups, taker};
 pub use records::{answer, join, make_room, make_spare, make_step_room};
 use std::alloc::Global;

@@ -11,7 +11,8 @@ use Rattle.kms_device.specs.declared.attempt.Attempt.{Attempt}
 use Rattle.kms_device.specs.declared.attempt.Findings.{Findings}
 use Rattle.kms_device.specs.declared.attempt.Attempted.{Attempted}
 use Rattle.kms_device.specs.declared.attempt.Attempted.TheVariants as attempted
-use Rattle.kms_device.specs.Attempts.{AnsweredBy, BrokenOff, Committed, GoesOnAt, IsAttempt, MayAttempt, IsLastReply, Serves, StandsAt, StaysAt, Went, gives_reply, new_attempt}
+use Rattle.kms_device.specs.Attempts.{AnsweredBy, BrokenOff, Committed, GoesOnAt, IsAttempt, MayAttempt, IsLastReply, Serves, StandsAt}
+use Rattle.kms_device.specs.Attempts.{StaysAt, Went, gives_reply, new_attempt}
 use Rattle.kms_device.specs.Committing.{GoesOnWith}
 use Rattle.kms_device.specs.Turns.{DevicePass, run_seen}
 use Rattle.kms_device.proofs.Serving.{serves_new}
@@ -19,7 +20,8 @@ use Rattle.kms_device.proofs.Stepping.{may_again}
 use Rattle.kms_device.proofs.Went.{went_before, went_both, went_not}
 
 -- before the first attempt
-pub made_none : (script : Script) (client : ℕ) (p : DevicePass) (work : Attempt) → work ≡ new_attempt → MayAttempt (run_seen script p) client
+pub made_none : (script : Script) (client : ℕ) (p : DevicePass) (work : Attempt) → work ≡ new_attempt
+    → MayAttempt (run_seen script p) client
     → GoesOnWith script client p p work
 made_none script client p work is_new may = subst (GoesOnWith script client p p) (sym is_new) (record {
   steps = [];
@@ -58,11 +60,13 @@ module _ (script : Script) (client : ℕ) (p m q : DevicePass) (work : Attempt) 
       | inr looked ↦ further [] attempted.Did keeps looked.went (inr (inr looked)) refl stays serves stands
     ]
   ]
-  made_more (attempted.NotYet n) keeps other is stays serves stands = further [] (attempted.NotYet n) keeps is.went is refl stays serves stands
+  made_more (attempted.NotYet n) keeps other is stays serves stands = further [] (attempted.NotYet n) keeps is.went is refl stays serves
+      stands
   made_more (attempted.Answered r) keeps other is stays serves stands = absurd (other r refl)
 
   -- one that gave the reply
-  pub made_all : (did : Attempted) (keeps : Findings) (r : Reply) → did ≡ attempted.Answered r → IsAttempt script client m work.kept q keeps did → Committed script client r p q
+  pub made_all : (did : Attempted) (keeps : Findings) (r : Reply) → did ≡ attempted.Answered r
+      → IsAttempt script client m work.kept q keeps did → Committed script client r p q
   made_all did keeps r is_reply is =
       let by = subst (IsAttempt script client m work.kept q keeps) is_reply is in record {
         steps = on.steps;
@@ -72,7 +76,9 @@ module _ (script : Script) (client : ℕ) (p m q : DevicePass) (work : Attempt) 
         same = by.stepped.finds.same;
         left = by.stepped.left;
         stays = record {
-          may = may_again (run_seen script m) by.stepped.found client by.stepped.finds.same (ap (λ (x : Place). x.command) by.stepped.finds.place) (ap (λ (x : Place). returning_of x.doing) by.stepped.finds.place ∙ on.stays.may.awake) on.stays.may;
+          may = may_again (run_seen script m) by.stepped.found client by.stepped.finds.same
+              (ap (λ (x : Place). x.command) by.stepped.finds.place)
+              (ap (λ (x : Place). returning_of x.doing) by.stepped.finds.place ∙ on.stays.may.awake) on.stays.may;
           command = ap (λ (x : Place). x.command) by.stepped.finds.place ∙ on.stays.command;
         };
         records = subst (λ n. IsLastReply (machine (run_seen script q)) client n r) on.stays.command by.records;

@@ -15,14 +15,15 @@ use Rattle.kms_model.specs.Promises.{client_of_step}
 use Rattle.kms_core.specs.Calls.{MayMake, MayRead, MayReturn, MaySignal}
 use Rattle.kms_core.specs.Locks.{HasContext, MayBackOff, MayBegin, MayRelock}
 use Rattle.kms_core.specs.Run.{Run, machine}
-use Rattle.kms_clients.specs.Standing.{ticket_in}
+use Rattle.kms_wwlock.specs.Standing.{ticket_in}
 use Rattle.kms_device.specs.Asking.{ContextBackedOff, ContextMustBackOff}
 use Rattle.kms_device.specs.Turns.{DevicePass, MayBeFound, run_seen}
 use Rattle.kms_device.proofs.Runs.{legal-behind, open-at, run-append, stays}
 use Rattle.kms_device.proofs.Staying.{same_place}
 
 -- a client that is idle at a command in one machine is so in another where it stands at the same place
-idle-same : (s : Script) (m m2 : Machine) (client : ℕ) (test : Command → Bool) → place_at m2 client ≡ place_at m client → idle_at s m client test ≡ true → idle_at s m2 client test ≡ true
+idle-same : (s : Script) (m m2 : Machine) (client : ℕ) (test : Command → Bool) → place_at m2 client ≡ place_at m client
+    → idle_at s m client test ≡ true → idle_at s m2 client test ≡ true
 idle-same s m m2 client test e h =
     let both = and_parts (is_idle (doing_at m client)) _ h in
     and_from (is_idle (doing_at m2 client)) _ (ap (λ (p : Place). is_idle p.doing) e ∙ both.0) (rw e both.1)
@@ -38,15 +39,18 @@ module _ (script : Script) (pass : DevicePass) (found : Run) (f : MayBeFound scr
   behind = ap (at script) f.history.begins.1 ∙ run-append script (first_machine script.topology) pass.seen f.history.begins.0
 
   legal_rest : are_legal script (at script pass.seen) f.history.begins.0 ≡ true
-  legal_rest = legal-behind script (first_machine script.topology) pass.seen f.history.begins.0 (subst (λ h. is_history script h ≡ true) f.history.begins.1 history)
+  legal_rest = legal-behind script (first_machine script.topology) pass.seen f.history.begins.0
+      (subst (λ h. is_history script h ≡ true) f.history.begins.1 history)
 
   machine-found : machine found ≡ at script found.steps
   machine-found = ap (λ s. at s found.steps) f.same
 
   -- what each step of others keeps holds of what is found, where it holds of what was seen
-  pub stays-found : (P : Machine → Type 0) → ((m : Machine) (x : Step) → legal script m x ≡ true → client_of_step x ≢ Some pass.rank → P m → P (next script m x)) → P (at script pass.seen) → P (machine found)
+  pub stays-found : (P : Machine → Type 0) → ((m : Machine) (x : Step) → legal script m x ≡ true → client_of_step x ≢ Some pass.rank → P m
+      → P (next script m x)) → P (at script pass.seen) → P (machine found)
   stays-found P keeps p =
-      subst P (sym (machine-found ∙ behind)) (stays P script pass.rank keeps (at script pass.seen) f.history.begins.0 legal_rest f.history.begins.2 p)
+      subst P (sym (machine-found ∙ behind)) (stays P script pass.rank keeps (at script pass.seen) f.history.begins.0 legal_rest
+      f.history.begins.2 p)
 
   pub going-found : (machine found).stalled ≡ false
   going-found = open-at found.script found.steps f.is_open.history f.is_open.goes_on
@@ -57,12 +61,16 @@ module _ (script : Script) (pass : DevicePass) (found : Run) (f : MayBeFound scr
       stays-found (λ m. place_at m pass.rank ≡ place_at (at script pass.seen) pass.rank)
       (λ m x is others same. same_place script m pass.rank x is others ∙ same) refl
 
-  idle-found : (test : Command → Bool) → idle_at script (at script pass.seen) pass.rank test ≡ true → idle_at found.script (machine found) pass.rank test ≡ true
-  idle-found test h = subst (λ s. idle_at s (machine found) pass.rank test ≡ true) (sym f.same) (idle-same script (at script pass.seen) (machine found) pass.rank test place-found h)
+  idle-found : (test : Command → Bool) → idle_at script (at script pass.seen) pass.rank test ≡ true
+      → idle_at found.script (machine found) pass.rank test ≡ true
+  idle-found test h = subst (λ s. idle_at s (machine found) pass.rank test ≡ true) (sym f.same)
+      (idle-same script (at script pass.seen) (machine found) pass.rank test place-found h)
 
   -- a step that idle clients may do
-  may-idle : (test : Command → Bool) → (not (at script pass.seen).stalled && idle_at script (at script pass.seen) pass.rank test) ≡ true → (not (machine found).stalled && idle_at found.script (machine found) pass.rank test) ≡ true
-  may-idle test h = and_from (not (machine found).stalled) _ (ap not going-found) (idle-found test (and_parts (not (at script pass.seen).stalled) _ h).1)
+  may-idle : (test : Command → Bool) → (not (at script pass.seen).stalled && idle_at script (at script pass.seen) pass.rank test) ≡ true
+      → (not (machine found).stalled && idle_at found.script (machine found) pass.rank test) ≡ true
+  may-idle test h = and_from (not (machine found).stalled) _ (ap not going-found)
+      (idle-found test (and_parts (not (at script pass.seen).stalled) _ h).1)
 
   pub may_make : (client : ℕ) → pass.rank ≡ client → MayMake (run_seen script pass) client → MayMake found client
   unfolding legal may
@@ -86,10 +94,12 @@ module _ (script : Script) (pass : DevicePass) (found : Run) (f : MayBeFound scr
     commit = h.commit;
     returning =
         subst (λ c. returning_of (doing_at (machine found) c) ≡ Some h.commit) whose
-        (ap (λ (p : Place). returning_of p.doing) place-found ∙ subst (λ c. returning_of (doing_at (at script pass.seen) c) ≡ Some h.commit) (sym whose) h.returning);
+        (ap (λ (p : Place). returning_of p.doing) place-found ∙ subst (λ c. returning_of (doing_at (at script pass.seen) c) ≡ Some h.commit)
+        (sym whose) h.returning);
   }
 
-  pub may_back_off : (t : Ticket) → ContextMustBackOff (run_seen script pass) pass.rank t → MayBackOff found t × HasContext found pass.rank t
+  pub may_back_off : (t : Ticket) → ContextMustBackOff (run_seen script pass) pass.rank t → MayBackOff found t
+      × HasContext found pass.rank t
   may_back_off t h =
       let must = ap (λ (p : Place). p.doing) place-found ∙ h.must in
       (record { client = pass.rank; object = h.object; must = must; goes_on = going-found }, ap ticket_in must)

@@ -24,7 +24,8 @@ pub record IsLockableId (t : Topology) (id : ℕ) : Type 0 where
 
 module _ (t : Topology) (few : HasFewObjects t) (id : ℕ) where
   -- `there` is what a kind with locks tells: its objects have one
-  of_kind : (kind : Kind) → ((index : ℕ) → exists t kind index ≡ true → is_lockable t kind index ≡ true) → IsIn id (ids_of t kind) → IsLockableId t id
+  of_kind : (kind : Kind) → ((index : ℕ) → exists t kind index ≡ true → is_lockable t kind index ≡ true) → IsIn id (ids_of t kind)
+      → IsLockableId t id
   of_kind kind there is =
       let o = ids-in t kind id is in
       let many = few_of t kind few in
@@ -32,7 +33,8 @@ module _ (t : Topology) (few : HasFewObjects t) (id : ℕ) where
       let index : id - first_id kind ≡ o.index = omega (arith, o.same) in
       record {
         is_id = subst (λ k. first_id k ≤ id) (sym is_kind) (omega (arith, o.same));
-        can_lock = subst (λ k. is_lockable t k (id - first_id k) ≡ true) (sym is_kind) (there (id - first_id kind) (ap (exists t kind) index ∙ lt-ltb o.index (count_of t kind) o.within));
+        can_lock = subst (λ k. is_lockable t k (id - first_id k) ≡ true) (sym is_kind)
+            (there (id - first_id kind) (ap (exists t kind) index ∙ lt-ltb o.index (count_of t kind) o.within));
       }
 
   pub lockable_id : IsIn id (lockable t) → IsLockableId t id
@@ -48,4 +50,5 @@ module _ (t : Topology) (few : HasFewObjects t) (id : ℕ) where
 pub held_object : (r : Run) (client id : ℕ) → IsOpen r → holds (machine r) client id ≡ true → IsLockableId r.script.topology id
 held_object r client id is_open held =
     lockable_id r.script.topology (few_objects r.script.topology is_open.formed.device) id
-    ((history_facts r.script r.steps (plain-from r.script is_open.formed) is_open.history).locks.held_there id client (value-is client (holder_at (machine r) id) held))
+    ((history_facts r.script r.steps (plain-from r.script is_open.formed) is_open.history).locks.held_there id client
+    (value-is client (holder_at (machine r) id) held))

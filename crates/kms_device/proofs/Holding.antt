@@ -26,11 +26,14 @@ module _ (s : Script) (m : Machine) (client object : ℕ) (held : holder_at m ob
   Others c = Some c ≢ Some client
 
   -- an object that is free is another one
-  takes : (c o : ℕ) → holder_at m o ≡ None → holder_at (record m { contexts = record m.contexts { locks = (o, Some c) ∷ m.contexts.locks } }) object ≡ Some client
+  takes : (c o : ℕ) → holder_at m o ≡ None → holder_at
+      (record m { contexts = record m.contexts { locks = (o, Some c) ∷ m.contexts.locks } }) object ≡ Some client
   takes c o free =
-      read_other None m.contexts.locks o object (Some c) (λ e. (let both : Some client ≡ None = sym held ∙ (ap (holder_at m) (sym e) ∙ free) in absurd cc)) ∙ held
+      read_other None m.contexts.locks o object (Some c)
+      (λ e. (let both : Some client ≡ None = sym held ∙ (ap (holder_at m) (sym e) ∙ free) in absurd cc)) ∙ held
 
-  drops : (c : ℕ) → Others c → holder_at (record m { contexts = record m.contexts { locks = dropped c m.contexts.locks } }) object ≡ Some client
+  drops : (c : ℕ) → Others c → holder_at (record m { contexts = record m.contexts { locks = dropped c m.contexts.locks } }) object
+      ≡ Some client
   drops c others = dropped-keeps c m.contexts.locks object client (λ e. others (ap Some e)) held
 
   carries_held : Carries s m (λ step m2. client_of_step step ≢ Some client → Held m2)
@@ -51,15 +54,18 @@ module _ (s : Script) (m : Machine) (client object : ℕ) (held : holder_at m ob
       makes = λ c command e making idle b eb others.
           by_bool (λ b. Held (made_as b m c (execute s.topology m.device.world c command))) held held b;
       signalled = λ c command e is_signal idle o others.
-          by_fence (λ o. Held (goes_on (signals (answers m c (execute s.topology m.device.world c command).reply) o) c)) held (λ fence. held) o;
+          by_fence (λ o. Held (goes_on (signals (answers m c (execute s.topology m.device.world c command).reply) o) c)) held
+          (λ fence. held) o;
       read_none = λ c command e is_wait idle none others. held;
       read_one = λ c command e is_wait idle event events some others. held;
     };
-    tails = tails_leave s m (λ step left. client_of_step step ≢ Some client → read None left.contexts.locks object ≡ Some client) (λ step others. held);
+    tails = tails_leave s m (λ step left. client_of_step step ≢ Some client → read None left.contexts.locks object ≡ Some client)
+        (λ step others. held);
     stalled = λ h others. held;
   }
 
-  pub same_holder : (step : Step) → legal s m step ≡ true → client_of_step step ≢ Some client → holder_at (next s m step) object ≡ Some client
+  pub same_holder : (step : Step) → legal s m step ≡ true → client_of_step step ≢ Some client → holder_at (next s m step) object
+      ≡ Some client
   same_holder step h others = each_step s m (λ step m2. client_of_step step ≢ Some client → Held m2) carries_held step h others
 
 -- a client holds an object still, which has the state that it had in a world
@@ -68,9 +74,11 @@ pub record Keeps (s : Script) (w : World) (client object : ℕ) (m : Machine) : 
   pub held : holder_at m object ≡ Some client
   pub same : HasSameState s.topology w m.device.world object
 
-pub keeps_step : (s : Script) (w : World) (client object : ℕ) (m : Machine) (x : Step) → IsPlainScript s → legal s m x ≡ true → client_of_step x ≢ Some client → Keeps s w client object m → Keeps s w client object (next s m x)
+pub keeps_step : (s : Script) (w : World) (client object : ℕ) (m : Machine) (x : Step) → IsPlainScript s → legal s m x ≡ true
+    → client_of_step x ≢ Some client → Keeps s w client object m → Keeps s w client object (next s m x)
 keeps_step s w client object m x plain h others k =
-    let step = held_same s m plain k.along.facts.holds k.along.facts.locks client object (ap (has_value client) k.held ∙ eq-eqb client client refl) x others h in
+    let step = held_same s m plain k.along.facts.holds k.along.facts.locks client object
+    (ap (has_value client) k.held ∙ eq-eqb client client refl) x others h in
     record {
       along = step_along s m x plain k.along h;
       held = same_holder s m client object k.held x h others;

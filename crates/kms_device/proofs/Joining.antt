@@ -27,7 +27,8 @@ use Rattle.kms_core.specs.Swaps.{late_reply}
 use Rattle.kms_device.specs.declared.attempt.Findings.{Findings}
 use Rattle.kms_device.specs.declared.attempt.Attempted.{Attempted}
 use Rattle.kms_device.specs.declared.attempt.Attempted.TheVariants as attempted
-use Rattle.kms_device.specs.Attempts.{AreLookedUp, AsksNext, ComesNext, ComesNextAt, ComesNextTaking, FindsRequest, GoesOnAt, IsAttempt, IsLastReply, Serves, StaysAt, Stepped, Uses, WaitsAt, Went, looks_after, states_after, step_of_move}
+use Rattle.kms_device.specs.Attempts.{AreLookedUp, AsksNext, ComesNext, ComesNextAt, ComesNextTaking, FindsRequest, GoesOnAt, IsAttempt}
+use Rattle.kms_device.specs.Attempts.{IsLastReply, Serves, StaysAt, Stepped, Uses, WaitsAt, Went, looks_after, states_after, step_of_move}
 use Rattle.kms_device.specs.Trying.{IsReady, TakesLocksFor, Tried, with_looks}
 use Rattle.kms_device.specs.Turns.{DevicePass, DeviceTurn, run_seen}
 use Rattle.kms_device.proofs.Deciding.{request-found}
@@ -37,7 +38,8 @@ use Rattle.kms_device.proofs.Went.{went_later}
 
 -- What an attempt goes by, told otherwise
 
-module _ (from from2 : List Step) (kept kept2 : Findings) (states : kept2.states ≡ kept.states) (r : Run) (client : ℕ) (used : List (ℕ × Look))
+module _ (from from2 : List Step) (kept kept2 : Findings) (states : kept2.states ≡ kept.states) (r : Run) (client : ℕ)
+    (used : List (ℕ × Look))
     (uses : Uses from r client kept.looks used → Uses from2 r client kept2.looks used) where
   abbrev asks_so : AsksNext from r client kept used → AsksNext from2 r client kept2 used
   asks_so a = record {
@@ -56,14 +58,19 @@ module _ (from from2 : List Step) (kept kept2 : Findings) (states : kept2.states
   comes_so (doing.Returning k) x is = is
 
   waits_so : (d : Doing) (x : Step) → WaitsAt d from r client kept used x → WaitsAt d from2 r client kept2 used x
-  waits_so (doing.Taking t) x is = record { comes = record { move = asks_so is.comes.move; next_is = is.comes.next_is }; in_vain = is.in_vain }
+  waits_so (doing.Taking t) x is = record {
+    comes = record { move = asks_so is.comes.move; next_is = is.comes.next_is };
+    in_vain =
+        is.in_vain;
+  }
   waits_so (doing.BackedOff t object) x is = is
   waits_so doing.Idle x is = absurd is
   waits_so (doing.MustBackOff t object) x is = absurd is
   waits_so (doing.Returning k) x is = absurd is
 
 -- what waits comes next
-waits_comes : (from : List Step) (kept : Findings) (r : Run) (client : ℕ) (used : List (ℕ × Look)) (d : Doing) (x : Step) → WaitsAt d from r client kept used x → ComesNextAt d from r client kept used x
+waits_comes : (from : List Step) (kept : Findings) (r : Run) (client : ℕ) (used : List (ℕ × Look)) (d : Doing) (x : Step)
+    → WaitsAt d from r client kept used x → ComesNextAt d from r client kept used x
 waits_comes from kept r client used (doing.Taking t) x is = is.comes
 waits_comes from kept r client used (doing.BackedOff t object) x is = is
 waits_comes from kept r client used doing.Idle x is = absurd is
@@ -71,19 +78,23 @@ waits_comes from kept r client used (doing.MustBackOff t object) x is = absurd i
 waits_comes from kept r client used (doing.Returning k) x is = absurd is
 
 -- what is asked for makes the client keep the look-ups that it used
-looks_of_move : (r : Run) (client : ℕ) (request : Request) (kept : Findings) (used : List (ℕ × Look)) (asks : Move) → looks_after kept used (step_of_move r client request asks) ≡ Some used
+looks_of_move : (r : Run) (client : ℕ) (request : Request) (kept : Findings) (used : List (ℕ × Look)) (asks : Move)
+    → looks_after kept used (step_of_move r client request asks) ≡ Some used
 looks_of_move r client request kept used (move.Refuse why) = refl
 looks_of_move r client request kept used (move.Lock id) = refl
-looks_of_move r client request kept used (move.Accept checked resolved) = by (is_test request.flags) (is_some (late_reply r.script.topology (machine r) client request))
+looks_of_move r client request kept used (move.Accept checked resolved) = by (is_test request.flags)
+    (is_some (late_reply r.script.topology (machine r) client request))
   where
-    by : (test late : Bool) → looks_after kept used (if test then step.Test client else (if late then step.Refuse client else step.Swap client)) ≡ Some used
+    by : (test late : Bool) → looks_after kept used
+        (if test then step.Test client else (if late then step.Refuse client else step.Swap client)) ≡ Some used
     by true late = refl
     by false true = refl
     by false false = refl
 
 -- A turn that added nothing, and then the rest of an attempt
 
-module _ (script : Script) (says : Run → Type 0) (p m q : DevicePass) (first : Findings) (ready : IsReady script p first) (t : DeviceTurn script says [] p m) where
+module _ (script : Script) (says : Run → Type 0) (p m q : DevicePass) (first : Findings) (ready : IsReady script p first)
+    (t : DeviceTurn script says [] p m) where
   went : Went [] p m
   went = went_on script says p m first ready t
 
@@ -98,9 +109,12 @@ module _ (script : Script) (says : Run → Type 0) (p m q : DevicePass) (first :
 
   -- what was kept at first, and what the rest went by
   module _ (kept kept2 : Findings) (states : kept2.states ≡ kept.states)
-      (uses : (r : Run) (used : List (ℕ × Look)) → FindsRequest script p.rank m r → Uses m.seen r p.rank kept.looks used → Uses p.seen r p.rank kept2.looks used)
-      (looks : (r : Run) (used : List (ℕ × Look)) (x : Step) → FindsRequest script p.rank m r → ComesNext m.seen r p.rank kept used x → looks_after kept used x ≡ looks_after kept2 used x) where
-    comes_earlier : (r : Run) (used : List (ℕ × Look)) (x : Step) → FindsRequest script p.rank m r → ComesNext m.seen r p.rank kept used x → ComesNext p.seen r p.rank kept2 used x
+      (uses : (r : Run) (used : List (ℕ × Look)) → FindsRequest script p.rank m r → Uses m.seen r p.rank kept.looks used
+      → Uses p.seen r p.rank kept2.looks used)
+      (looks : (r : Run) (used : List (ℕ × Look)) (x : Step) → FindsRequest script p.rank m r → ComesNext m.seen r p.rank kept used x
+      → looks_after kept used x ≡ looks_after kept2 used x) where
+    comes_earlier : (r : Run) (used : List (ℕ × Look)) (x : Step) → FindsRequest script p.rank m r → ComesNext m.seen r p.rank kept used x
+        → ComesNext p.seen r p.rank kept2 used x
     comes_earlier r used x f is = comes_so m.seen p.seen kept kept2 states r p.rank used (uses r used f) (doing_at (machine r) p.rank) x is
 
     stepped_earlier : Stepped script p.rank m q kept → Stepped script p.rank p q kept2
@@ -115,7 +129,8 @@ module _ (script : Script) (says : Run → Type 0) (p m q : DevicePass) (first :
       went = went_later (s.next ∷ []) p m q went s.went;
     }
 
-    attempt_earlier : (new : Findings) (did : Attempted) → IsAttempt script p.rank m kept q new did → IsAttempt script p.rank p kept2 q new did
+    attempt_earlier : (new : Findings) (did : Attempted) → IsAttempt script p.rank m kept q new did
+        → IsAttempt script p.rank p kept2 q new did
     unfolding stepped_earlier
     attempt_earlier new attempted.Did is = elim is [
       | inl on ↦ inl (record {
@@ -142,7 +157,8 @@ module _ (script : Script) (says : Run → Type 0) (p m q : DevicePass) (first :
           finds = finds_earlier looked.found looked.finds;
           begins = looked.begins;
           used = looked.used;
-          move = asks_so m.seen p.seen kept kept2 states looked.found p.rank looked.used (uses looked.found looked.used looked.finds) looked.move;
+          move = asks_so m.seen p.seen kept kept2 states looked.found p.rank looked.used (uses looked.found looked.used looked.finds)
+              looked.move;
           decides = looked.decides;
           stale = looked.stale;
           request = looked.request;
@@ -159,10 +175,12 @@ module _ (script : Script) (says : Run → Type 0) (p m q : DevicePass) (first :
       is_length = is.is_length;
       used = is.used;
       next = is.next;
-      waits = waits_so m.seen p.seen kept kept2 states is.found p.rank is.used (uses is.found is.used is.finds) (doing_at (machine is.found) p.rank) is.next is.waits;
+      waits = waits_so m.seen p.seen kept kept2 states is.found p.rank is.used (uses is.found is.used is.finds)
+          (doing_at (machine is.found) p.rank) is.next is.waits;
       illegal = is.illegal;
       left = is.left;
-      looks = is.looks ∙ looks is.found is.used is.next is.finds (waits_comes m.seen kept is.found p.rank is.used (doing_at (machine is.found) p.rank) is.next is.waits);
+      looks = is.looks ∙ looks is.found is.used is.next is.finds
+          (waits_comes m.seen kept is.found p.rank is.used (doing_at (machine is.found) p.rank) is.next is.waits);
       states = is.states ∙ sym states;
     }
     attempt_earlier new (attempted.Answered r) is = record {
@@ -174,7 +192,8 @@ module _ (script : Script) (says : Run → Type 0) (p m q : DevicePass) (first :
     stays_earlier : StaysAt (run_seen script m) (run_seen script q) p.rank → StaysAt (run_seen script p) (run_seen script q) p.rank
     stays_earlier stays = record { may = stays.may; command = stays.command ∙ ap (λ (x : Place). x.command) place }
 
-    goes_earlier : (did : Attempted) → GoesOnAt (run_seen script m) (run_seen script q) p.rank did → GoesOnAt (run_seen script p) (run_seen script q) p.rank did
+    goes_earlier : (did : Attempted) → GoesOnAt (run_seen script m) (run_seen script q) p.rank did
+        → GoesOnAt (run_seen script p) (run_seen script q) p.rank did
     goes_earlier attempted.Did on = stays_earlier on
     goes_earlier (attempted.NotYet n) on = stays_earlier on
     goes_earlier (attempted.Answered r) on = tt
@@ -182,7 +201,8 @@ module _ (script : Script) (says : Run → Type 0) (p m q : DevicePass) (first :
     rank : m.rank ≡ p.rank
     rank = rank-after script says [] p m t
 
-    tried_earlier : {E : Type 0} (keeps : Findings) (r : Result Attempted E) → Tried script m kept q keeps r → Tried script p kept2 q keeps r
+    tried_earlier : {E : Type 0} (keeps : Findings) (r : Result Attempted E) → Tried script m kept q keeps r
+        → Tried script p kept2 q keeps r
     tried_earlier keeps (Ok did) is = record {
       is_attempt = attempt_earlier keeps did (subst (λ n. IsAttempt script n m kept q keeps did) rank is.is_attempt);
       goes_on = goes_earlier did (subst (λ n. GoesOnAt (run_seen script m) (run_seen script q) n did) rank is.goes_on);
@@ -205,13 +225,16 @@ module _ (script : Script) (says : Run → Type 0) (p m q : DevicePass) (first :
   pub takes_later : (ticket : Ticket) (request : Request) → TakesLocksFor script p ticket request → TakesLocksFor script m ticket request
   takes_later ticket request takes =
       let rank : m.rank ≡ p.rank = rank-after script says [] p m t in record {
-        taking = subst (λ n. doing_at (machine (run_seen script m)) n ≡ doing.Taking ticket) (sym rank) (ap (λ (x : Place). x.doing) place ∙ takes.taking);
+        taking = subst (λ n. doing_at (machine (run_seen script m)) n ≡ doing.Taking ticket) (sym rank)
+            (ap (λ (x : Place). x.doing) place ∙ takes.taking);
         at = subst (λ n. request_at script (machine (run_seen script m)) n ≡ Some request) (sym rank)
-            (ap (λ (r : Run). request_at r.script (machine r) p.rank) (found-is script says p m t) ∙ (request-found script p t.found t.finds ∙ takes.at));
+            (ap (λ (r : Run). request_at r.script (machine r) p.rank) (found-is script says p m t) ∙
+            (request-found script p t.found t.finds ∙ takes.at));
       }
 
 -- Look-ups that were made in a turn of their own serve.
-module _ (script : Script) (p m q : DevicePass) (kept : Findings) (ready : IsReady script p kept) (none : kept.looks ≡ None) (ticket : Ticket) (request : Request) (takes : TakesLocksFor script p ticket request)
+module _ (script : Script) (p m q : DevicePass) (kept : Findings) (ready : IsReady script p kept) (none : kept.looks ≡ None)
+    (ticket : Ticket) (request : Request) (takes : TakesLocksFor script p ticket request)
     (told : List (ℕ × Look)) (t : DeviceTurn script (λ found. told ≡ lookups (world found) request) [] p m) where
   abbrev Says : Run → Type 0
   Says found = told ≡ lookups (world found) request
@@ -226,7 +249,8 @@ module _ (script : Script) (p m q : DevicePass) (kept : Findings) (ready : IsRea
   told_then = t.said ∙ ap {B = List (ℕ × Look)} (λ (r : Run). lookups (world r) request) (sym (found-is script Says p m t))
 
   -- they are of what the pass has seen since
-  abbrev looked_then : (r : Run) (client : ℕ) → r.script ≡ script → IsStart m.seen r.steps → request_at r.script (machine r) client ≡ Some request → AreLookedUp r client told
+  abbrev looked_then : (r : Run) (client : ℕ) → r.script ≡ script → IsStart m.seen r.steps → request_at r.script (machine r) client
+      ≡ Some request → AreLookedUp r client told
   looked_then r client same begins at = record {
     request = request;
     at = at;
@@ -241,7 +265,8 @@ module _ (script : Script) (p m q : DevicePass) (kept : Findings) (ready : IsRea
       is_open = ready2.is_open;
       may = ready2.may;
       serves = record {
-        looks = λ looks is. subst (AreLookedUp (run_seen script m) m.rank) (told_in looks is) (looked_then (run_seen script m) m.rank refl (start_refl m.seen) takes_with.at);
+        looks = λ looks is. subst (AreLookedUp (run_seen script m) m.rank) (told_in looks is)
+            (looked_then (run_seen script m) m.rank refl (start_refl m.seen) takes_with.at);
         states = ready2.serves.states;
         fresh = ready2.serves.fresh;
       };
@@ -252,7 +277,8 @@ module _ (script : Script) (p m q : DevicePass) (kept : Findings) (ready : IsRea
       told_in : (looks : List (ℕ × Look)) → Some told ≡ Some looks → told ≡ looks
       told_in looks e = cc
 
-  uses_then : (r : Run) (used : List (ℕ × Look)) → FindsRequest script p.rank m r → Uses m.seen r p.rank (Some told) used → Uses p.seen r p.rank kept.looks used
+  uses_then : (r : Run) (used : List (ℕ × Look)) → FindsRequest script p.rank m r → Uses m.seen r p.rank (Some told) used
+      → Uses p.seen r p.rank kept.looks used
   unfolding looked_then
   uses_then r used f u =
       subst (Uses p.seen r p.rank kept.looks) (sym (u.same told refl))
@@ -269,7 +295,8 @@ module _ (script : Script) (p m q : DevicePass) (kept : Findings) (ready : IsRea
           ∙ subst (λ n. request_at script (machine (run_seen script m)) n ≡ Some request) (rank-after script Says [] p m t) takes_with.at)
 
   -- while it takes locks, it keeps what it used
-  looks_then : (r : Run) (used : List (ℕ × Look)) (x : Step) → FindsRequest script p.rank m r → ComesNext m.seen r p.rank (with_looks told kept.states) used x
+  looks_then : (r : Run) (used : List (ℕ × Look)) (x : Step) → FindsRequest script p.rank m r
+      → ComesNext m.seen r p.rank (with_looks told kept.states) used x
       → looks_after (with_looks told kept.states) used x ≡ looks_after kept used x
   looks_then r used x f comes =
       ap (looks_after (with_looks told kept.states) used) here.next_is

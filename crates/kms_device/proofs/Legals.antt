@@ -24,7 +24,8 @@ pub crtc-few : (r : Run) (crtc : ℕ) → IsWellFormed r.script → crtc < r.scr
 crtc-few r crtc formed l = let few = (few_objects r.script.topology formed.device).crtcs in omega (arith, l, few)
 
 pub blank-few : (r : Run) (crtc : ℕ) → IsWellFormed r.script → blanks_at r crtc ≡ true → crtc < 4
-blank-few r crtc formed h = crtc-few r crtc formed (ltb-true crtc r.script.topology.crtcs (and_parts (exists r.script.topology Crtc crtc) _ h).0)
+blank-few r crtc formed h = crtc-few r crtc formed
+    (ltb-true crtc r.script.topology.crtcs (and_parts (exists r.script.topology Crtc crtc) _ h).0)
 
 pub may_blank : (r : Run) (crtc : ℕ) → is_history r.script r.steps ≡ true → NeverEnds r.steps → blanks_at r crtc ≡ true → MayBlank r crtc
 unfolding legal may
@@ -37,22 +38,29 @@ pub blank-goes : (r : Run) (crtc : ℕ) → blanks_at r crtc ≡ true → goes_a
 blank-goes r crtc h = (and_parts (exists r.script.topology Crtc crtc) _ h).1
 
 module _ (r : Run) (k : ℕ) (legal_step : is_legal r (step.Cleanup k) ≡ true) where
-  parts : (not (machine r).stalled && (is_hw_done (machine r).device k && (is_all_latched r.script.topology (machine r).device (machine r).records.latches k && not (is_cleaned (machine r).device k)))) ≡ true
+  parts : (not (machine r).stalled && (is_hw_done (machine r).device k
+      && (is_all_latched r.script.topology (machine r).device (machine r).records.latches k && not (is_cleaned (machine r).device k))))
+      ≡ true
   unfolding legal may
   parts = legal_step
 
-  done : (is_hw_done (machine r).device k && (is_all_latched r.script.topology (machine r).device (machine r).records.latches k && not (is_cleaned (machine r).device k))) ≡ true
+  done : (is_hw_done (machine r).device k && (is_all_latched r.script.topology (machine r).device (machine r).records.latches k
+      && not (is_cleaned (machine r).device k))) ≡ true
   done = (and_parts (not (machine r).stalled) _ parts).1
 
-  latched : (is_all_latched r.script.topology (machine r).device (machine r).records.latches k && not (is_cleaned (machine r).device k)) ≡ true
+  latched : (is_all_latched r.script.topology (machine r).device (machine r).records.latches k && not (is_cleaned (machine r).device k))
+      ≡ true
   latched = (and_parts (is_hw_done (machine r).device k) _ done).1
 
   pub may_clean : IsWellFormed r.script → is_history r.script r.steps ≡ true → MayCleanUp r k
   may_clean formed history = record {
-    claimed = ((history_kept r.script r.steps (plain-from r.script formed) history).tail.marks.done k (and_parts (is_hw_done (machine r).device k) _ done).0).0;
-    kept = not-true (is_cleaned (machine r).device k) (and_parts (is_all_latched r.script.topology (machine r).device (machine r).records.latches k) _ latched).1;
+    claimed = ((history_kept r.script r.steps (plain-from r.script formed) history).tail.marks.done k
+        (and_parts (is_hw_done (machine r).device k) _ done).0).0;
+    kept = not-true (is_cleaned (machine r).device k)
+        (and_parts (is_all_latched r.script.topology (machine r).device (machine r).records.latches k) _ latched).1;
     going = legal-going r.script (machine r) (step.Cleanup k) legal_step;
   }
 
   pub clean-over : is_commit_over r k ≡ true
-  clean-over = and_from (is_hw_done (machine r).device k) _ (and_parts (is_hw_done (machine r).device k) _ done).0 (and_parts (is_all_latched r.script.topology (machine r).device (machine r).records.latches k) _ latched).0
+  clean-over = and_from (is_hw_done (machine r).device k) _ (and_parts (is_hw_done (machine r).device k) _ done).0
+      (and_parts (is_all_latched r.script.topology (machine r).device (machine r).records.latches k) _ latched).0

@@ -1,5 +1,6 @@
 -- An object that is next by the groups is in the reach of the request still, when its client's turn comes.
-use Rattle.std.proofs.Common.{◌≡◌, ℕ, ◌-◌, ◌<◌, ◌≤◌, List, [], ◌∷◌, Bool, true, false, Option, Some, None, refl, sym, ap, ◌∙◌, subst, arith, inl, inr}
+use Rattle.std.proofs.Common.{◌≡◌, ℕ, ◌-◌, ◌<◌, ◌≤◌, List, [], ◌∷◌, Bool, true, false, Option, Some, None, refl, sym, ap, ◌∙◌, subst, arith}
+use Rattle.std.proofs.Common.{inl, inr}
 use Rattle.std.specs.Prelude.{not, ◌&&◌, ◌||◌, ◌==◌, IfSome, is_none, is_some, if◌then◌else◌}
 use Rattle.std.proofs.lemmas.Bool.{and_from, cases_Bool, eq-eqb, false≢true, lt-ltb, ltb-true}
 use Rattle.std.proofs.lemmas.List.Elements.{All-cons, All-filter, All-nil, filter_passes}
@@ -64,11 +65,13 @@ alone t f a = by (own_refusal t f a) _
     by (Some n) false = refl
 
 own-same : (t : Topology) (f g : ℕ → Look) (a : Assign) → TellsLabel f g a.value → is_none (own_refusal t f a) ≡ is_none (own_refusal t g a)
-own-same t f g a same = sym (alone t f a) ∙ (ap is_none (early-same t f g (one a) (All-cons (λ b. TellsLabel f g b.value) a [] same (All-nil (λ b. TellsLabel f g b.value)))) ∙ alone t g a)
+own-same t f g a same = sym (alone t f a) ∙ (ap is_none
+    (early-same t f g (one a) (All-cons (λ b. TellsLabel f g b.value) a [] same (All-nil (λ b. TellsLabel f g b.value)))) ∙ alone t g a)
 
 -- Two worlds
 
-module _ (script : Script) (pass : DevicePass) (found : Run) (f : MayBeFound script pass found) (t : Ticket) (id : ObjId) (h : IsNextByGroups (run_seen script pass) pass.rank t id) where
+module _ (script : Script) (pass : DevicePass) (found : Run) (f : MayBeFound script pass found) (t : Ticket) (id : ObjId)
+    (h : IsNextByGroups (run_seen script pass) pass.rank t id) where
   abbrev T : Topology
   T = script.topology
 
@@ -90,8 +93,13 @@ module _ (script : Script) (pass : DevicePass) (found : Run) (f : MayBeFound scr
   later : Holds script (machine found) × StayIn W.things V
   later =
       stays-found script pass found f (λ m. Holds script m × StayIn W.things m.device.world)
-      (λ m x is others both. (step_kept script m x (plain script pass found f) both.0 is, step_keeps script (λ d ls. StayIn W.things d.world) (stay_kept script W.things) m both.0 both.1 x is))
-      (history_kept script pass.seen (plain script pass found f) (seen-history script pass found f), λ label u is. record { thing = u; found = is; same_id = refl; same_content = refl })
+      (λ m x is others both. (
+        step_kept script m x (plain script pass found f) both.0 is,
+        step_keeps script (λ d ls. StayIn W.things d.world) (stay_kept script W.things) m both.0 both.1 x is,
+      )) (
+        history_kept script pass.seen (plain script pass found f) (seen-history script pass found f),
+        λ label u is. record { thing = u; found = is; same_id = refl; same_content = refl },
+      )
 
   before : Holds script (at script pass.seen)
   before = history_kept script pass.seen (plain script pass found f) (seen-history script pass found f)
@@ -100,27 +108,35 @@ module _ (script : Script) (pass : DevicePass) (found : Run) (f : MayBeFound scr
   all_made a is = all_in (λ a. IfSome (label_of a.value) (λ label. is_some (thing_labelled W.things label) ≡ true)) Assigns a h.made is
 
   made : AreMade W Items
-  made a is = all_in (λ a. IfSome (label_of a.value) (λ label. is_some (thing_labelled W.things label) ≡ true)) Items a (All-filter (λ a. is_none (own_refusal T (look_up_any W) a)) (λ a. IfSome (label_of a.value) (λ label. is_some (thing_labelled W.things label) ≡ true)) Assigns h.made) is
+  made a is = all_in (λ a. IfSome (label_of a.value) (λ label. is_some (thing_labelled W.things label) ≡ true)) Items a
+      (All-filter (λ a. is_none (own_refusal T (look_up_any W) a))
+      (λ a. IfSome (label_of a.value) (λ label. is_some (thing_labelled W.things label) ≡ true)) Assigns h.made) is
 
   fine : (a : Assign) → IsIn a Items → IsFine T (look_up_any W) a
-  fine a is = is_fine T (look_up_any W) a (none-is _ (all_in (λ a. is_none (own_refusal T (look_up_any W) a) ≡ true) Items a (filter_passes (λ a. is_none (own_refusal T (look_up_any W) a)) Assigns) is))
+  fine a is = is_fine T (look_up_any W) a (none-is _
+      (all_in (λ a. is_none (own_refusal T (look_up_any W) a) ≡ true) Items a
+      (filter_passes (λ a. is_none (own_refusal T (look_up_any W) a)) Assigns) is))
 
   -- labels name the same
   tells : (a : Assign) → IsIn a Assigns → TellsLabel (look_up_any V) (look_up_any W) a.value
   tells a is = by a.value (all_made a is)
     where
-      by_thing : (label : ℕ) (o : Option Thing) → thing_labelled W.things label ≡ o → is_some o ≡ true → look_up_any V label ≡ look_up_any W label
+      by_thing : (label : ℕ) (o : Option Thing) → thing_labelled W.things label ≡ o → is_some o ≡ true → look_up_any V label
+          ≡ look_up_any W label
       by_thing label None is some = absurd (false≢true some)
-      by_thing label (Some u) is some = (let two = later.1 label u is in ap look_of_any two.found ∙ ((λ i. look_of_content (two.same_id i) (two.same_content i)) ∙ sym (ap look_of_any is)))
+      by_thing label (Some u) is some = (let two = later.1 label u is
+          in ap look_of_any two.found ∙ ((λ i. look_of_content (two.same_id i) (two.same_content i)) ∙ sym (ap look_of_any is)))
 
-      by : (x : Value) → IfSome (label_of x) (λ label. is_some (thing_labelled W.things label) ≡ true) → TellsLabel (look_up_any V) (look_up_any W) x
+      by : (x : Value) → IfSome (label_of x) (λ label. is_some (thing_labelled W.things label) ≡ true)
+          → TellsLabel (look_up_any V) (look_up_any W) x
       by (Num n) m = tt
       by (Named label) m = by_thing label (thing_labelled W.things label) refl m
       by (New label) m = tt
       by (Crtc index) m = tt
 
   items_same : reaching T V Assigns ≡ Items
-  items_same = filter-same (λ a. is_none (own_refusal T (look_up_any V) a)) (λ a. is_none (own_refusal T (look_up_any W) a)) Assigns (λ a is. own-same T (look_up_any V) (look_up_any W) a (tells a is))
+  items_same = filter-same (λ a. is_none (own_refusal T (look_up_any V) a)) (λ a. is_none (own_refusal T (look_up_any W) a)) Assigns
+      (λ a is. own-same T (look_up_any V) (look_up_any W) a (tells a is))
 
   lockable_of : (k : Kind) (index : ℕ) → is_routed k ≡ true → exists T k index ≡ true → is_lockable T k index ≡ true
   lockable_of kind.Plane index r there = there
@@ -137,7 +153,9 @@ module _ (script : Script) (pass : DevicePass) (found : Run) (f : MayBeFound scr
         there = (fine a is).there
 
         same : Kept script pass found f (object_of a)
-        same = kept script pass found f (object_of a) (set_held a.kind a.index (lockable_of a.kind a.index r there) (list_any-has (λ b. object_of b == object_of a) Items a is (eq-eqb (object_of a) (object_of a) refl)))
+        same = kept script pass found f (object_of a)
+            (set_held a.kind a.index (lockable_of a.kind a.index r there)
+            (list_any-has (λ b. object_of b == object_of a) Items a is (eq-eqb (object_of a) (object_of a) refl)))
 
         of_kind : kind_of (object_of a) ≡ a.kind
         of_kind = kind-is script pass found f a.kind a.index there
@@ -154,7 +172,8 @@ module _ (script : Script) (pass : DevicePass) (found : Run) (f : MayBeFound scr
       states index within is =
           let there : exists T kind.Crtc index ≡ true = lt-ltb index (count_of T kind.Crtc) within in
           let of_kind : kind_of (object_id kind.Crtc index) ≡ kind.Crtc = kind-is script pass found f kind.Crtc index there in
-          let named : in_named_group T W Q (object_id kind.Crtc index) ≡ true = and_from (not (is_routed (kind_of (object_id kind.Crtc index)))) _ (ap (λ k. not (is_routed k)) of_kind) is in
+          let named : in_named_group T W Q (object_id kind.Crtc index)
+          ≡ true = and_from (not (is_routed (kind_of (object_id kind.Crtc index)))) _ (ap (λ k. not (is_routed k)) of_kind) is in
           (kept script pass found f (object_id kind.Crtc index) (named_held kind.Crtc index there named)).same.crtc of_kind
 
   or_second : (a b c : Bool) → a ≡ false → (a || b) ≡ true → (b ≡ true → c ≡ true) → (a || c) ≡ true
@@ -165,7 +184,8 @@ module _ (script : Script) (pass : DevicePass) (found : Run) (f : MayBeFound scr
   unfolding reaches touches
   touched = h.reached
 
-  is_object : (k : Kind) → kind_of id.0 ≡ k → is_lockable T k (id.0 - first_id k) ≡ true → first_id k ≤ id.0 → exists T k (id.0 - first_id k) ≡ true → IsIn id.0 (ids_of T k)
+  is_object : (k : Kind) → kind_of id.0 ≡ k → is_lockable T k (id.0 - first_id k) ≡ true → first_id k ≤ id.0
+      → exists T k (id.0 - first_id k) ≡ true → IsIn id.0 (ids_of T k)
   is_object k e lockable low there =
       let same : object_id k (id.0 - first_id k) ≡ id.0 = omega (arith, low) in
       subst (λ o. IsIn o (ids_of T k)) same (ids-has T k (id.0 - first_id k) (ltb-true (id.0 - first_id k) (count_of T k) there))
@@ -179,17 +199,23 @@ module _ (script : Script) (pass : DevicePass) (found : Run) (f : MayBeFound scr
       by_set kind.Conn is set = rw set refl
       by_set kind.Enc is set = is
 
-      by_routed : (k : Kind) → kind_of id.0 ≡ k → is_routed k ≡ true → is_lockable T k (id.0 - first_id k) ≡ exists T k (id.0 - first_id k) → sets Items id.0 ≡ false
+      by_routed : (k : Kind) → kind_of id.0 ≡ k → is_routed k ≡ true → is_lockable T k (id.0 - first_id k) ≡ exists T k (id.0 - first_id k)
+          → sets Items id.0 ≡ false
           → is_affected T W.things W.values (after W Q) id.0 ≡ true → is_affected T V.things V.values (after V Q) id.0 ≡ true
       by_routed k e r same unset affected =
-          let lockable : is_lockable T k (id.0 - first_id k) ≡ true = subst (λ k. is_lockable T k (id.0 - first_id k) ≡ true) e h.takes.lockable in
+          let lockable : is_lockable T k (id.0 - first_id k)
+          ≡ true = subst (λ k. is_lockable T k (id.0 - first_id k) ≡ true) e h.takes.lockable in
           let low : first_id k ≤ id.0 = subst (λ k. first_id k ≤ id.0) e h.takes.is_id in
-          let not_named : in_named_group T W Q id.0 ≡ false = ap (λ b. not b && names W.values (after W Q) Items id.0) (ap is_routed e ∙ r) in
-          affected_still T W V (formed script pass found f).device before.present.lawful later.0.present.lawful later.1 Items made fine h.takes.request (routed (h.set unset)) k id.0 r
+          let not_named : in_named_group T W Q id.0 ≡ false = ap (λ b. not b && names W.values (after W Q) Items id.0) (ap is_routed e ∙ r)
+          in
+          affected_still T W V (formed script pass found f).device before.present.lawful later.0.present.lawful later.1 Items made fine
+          h.takes.request (routed (h.set unset)) k id.0 r
           (is_object k e lockable low (sym same ∙ lockable)) (states (h.set unset) (h.named unset not_named)) affected
 
-      by_held : (k : Kind) → kind_of id.0 ≡ k → touches_of_kind k T W Q id.0 ≡ true → sets Items id.0 ≡ false → touches_of_kind k T V Q id.0 ≡ true
-      by_held kind.Crtc e is unset = sym (crtc_touched T W V (formed script pass found f).device before.present.lawful later.0.present.lawful later.1 Items made fine h.takes.request (routed (h.set unset)) id.0) ∙ is
+      by_held : (k : Kind) → kind_of id.0 ≡ k → touches_of_kind k T W Q id.0 ≡ true → sets Items id.0 ≡ false → touches_of_kind k T V Q id.0
+          ≡ true
+      by_held kind.Crtc e is unset = sym (crtc_touched T W V (formed script pass found f).device before.present.lawful
+          later.0.present.lawful later.1 Items made fine h.takes.request (routed (h.set unset)) id.0) ∙ is
       by_held kind.Plane e is unset = or_second (sets Items id.0) _ _ unset is (by_routed kind.Plane e refl refl unset)
       by_held kind.Conn e is unset = or_second (sets Items id.0) _ _ unset is (by_routed kind.Conn e refl refl unset)
       by_held kind.Enc e is unset = is
@@ -198,12 +224,14 @@ module _ (script : Script) (pass : DevicePass) (found : Run) (f : MayBeFound scr
   unfolding reaches touches
   reach_still =
       subst (λ (s : Script). reaches s.topology V h.takes.request id.0 ≡ true) (sym f.same)
-      (ap (λ items. touches_of_kind (kind_of id.0) T V (record h.takes.request { assigns = items }) id.0) items_same ∙ still (kind_of id.0) refl touched)
+      (ap (λ items. touches_of_kind (kind_of id.0) T V (record h.takes.request { assigns = items }) id.0) items_same ∙ still (kind_of id.0)
+      refl touched)
 
   next_found : MayLock found t id × IsTaking found pass.rank t
   next_found = lock_found script pass found f t id h.takes reach_still
 
 -- by either condition
-pub may_take : (script : Script) (pass : DevicePass) (found : Run) → MayBeFound script pass found → (t : Ticket) (id : ObjId) → MayLockNext (run_seen script pass) pass.rank t id → MayLock found t id × IsTaking found pass.rank t
+pub may_take : (script : Script) (pass : DevicePass) (found : Run) → MayBeFound script pass found → (t : Ticket) (id : ObjId)
+    → MayLockNext (run_seen script pass) pass.rank t id → MayLock found t id × IsTaking found pass.rank t
 may_take script pass found f t id (inl next) = next_found script pass found f t id next
 may_take script pass found f t id (inr asked) = may_lock script pass found f t id asked

@@ -20,7 +20,8 @@ run-append s m [] ys = refl
 run-append s m (x ∷ xs) ys = run-append s (next s m x) xs ys
 
 -- the steps behind a beginning are legal there
-pub legal-behind : (s : Script) (m : Machine) (xs ys : List Step) → are_legal s m (xs ++ ys) ≡ true → are_legal s (run_steps s m xs) ys ≡ true
+pub legal-behind : (s : Script) (m : Machine) (xs ys : List Step) → are_legal s m (xs ++ ys) ≡ true → are_legal s (run_steps s m xs) ys
+    ≡ true
 unfolding run_steps are_legal
 legal-behind s m [] ys h = h
 legal-behind s m (x ∷ xs) ys h = legal-behind s (next s m x) xs ys (and_parts (legal s m x) _ h).1
@@ -37,7 +38,8 @@ pub other-client : (client : ℕ) (x : Step) → owner x ≢ client → client_o
 other-client client x ne e = ne (ap number_or_0 e)
 
 -- what each legal step of others keeps stays through all of them
-pub stays : (P : Machine → Type 0) (s : Script) (client : ℕ) → ((m : Machine) (x : Step) → legal s m x ≡ true → client_of_step x ≢ Some client → P m → P (next s m x))
+pub stays : (P : Machine → Type 0) (s : Script) (client : ℕ)
+    → ((m : Machine) (x : Step) → legal s m x ≡ true → client_of_step x ≢ Some client → P m → P (next s m x))
     → (m : Machine) (rest : List Step) → are_legal s m rest ≡ true → All (λ x. owner x ≢ client) rest → P m → P (run_steps s m rest)
 unfolding run_steps are_legal
 stays P s client keeps m [] h others p = p
@@ -47,7 +49,8 @@ stays P s client keeps m (x ∷ xs) h others p =
     (keeps m x both.0 (other-client client x (All-head (λ x. owner x ≢ client) x xs others)) p)
 
 -- nothing but its end ends a history
-pub still-open : (s : Script) (m : Machine) (xs : List Step) → are_legal s m xs ≡ true → NeverEnds xs → m.stalled ≡ false → (run_steps s m xs).stalled ≡ false
+pub still-open : (s : Script) (m : Machine) (xs : List Step) → are_legal s m xs ≡ true → NeverEnds xs → m.stalled ≡ false
+    → (run_steps s m xs).stalled ≡ false
 unfolding run_steps are_legal
 still-open s m [] h never going = going
 still-open s m (x ∷ xs) h never going =

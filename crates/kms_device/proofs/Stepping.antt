@@ -16,11 +16,13 @@ use Rattle.kms_device.proofs.Found.{place-found}
 use Rattle.kms_device.proofs.Runs.{legal-behind, run-append}
 
 -- a client that stands at the same command has the same request
-pub request-same : (s : Script) (m m2 : Machine) (client : ℕ) → (place_at m2 client).command ≡ (place_at m client).command → request_at s m2 client ≡ request_at s m client
+pub request-same : (s : Script) (m m2 : Machine) (client : ℕ) → (place_at m2 client).command ≡ (place_at m client).command
+    → request_at s m2 client ≡ request_at s m client
 request-same s m m2 client same = ap (λ n. request_in (command_of s (record { client = client; command = n }))) same
 
 -- a client that stands at its request still, and awake, may try again
-pub may_again : (r r2 : Run) (client : ℕ) → r2.script ≡ r.script → (place_at (machine r2) client).command ≡ (place_at (machine r) client).command → returning_of (doing_at (machine r2) client) ≡ None
+pub may_again : (r r2 : Run) (client : ℕ) → r2.script ≡ r.script → (place_at (machine r2) client).command
+    ≡ (place_at (machine r) client).command → returning_of (doing_at (machine r2) client) ≡ None
     → MayAttempt r client → MayAttempt r2 client
 may_again r r2 client scripts same awake may = record {
   request = may.request;
@@ -48,10 +50,12 @@ module _ (script : Script) (says : Run → Type 0) (xs : List Step) (p q : Devic
   pub machine-after : machine (run_seen script q) ≡ run_steps script (machine t.found) xs
   machine-after =
       ap (at script) seen-after
-      ∙ (run-append script (first_machine script.topology) t.found.steps xs ∙ ap (λ m. run_steps script m xs) (ap (λ s. at s t.found.steps) (sym t.finds.same)))
+      ∙ (run-append script (first_machine script.topology) t.found.steps xs ∙ ap (λ m. run_steps script m xs)
+      (ap (λ s. at s t.found.steps) (sym t.finds.same)))
 
   pub open-after : IsOpen (run_seen script q)
-  open-after = subst IsOpen (ap {B = Run} (λ s. record { script = s; steps = t.found.steps ++ xs }) t.finds.same ∙ ap {B = Run} (λ h. record { script = script; steps = h }) (sym seen-after)) t.left
+  open-after = subst IsOpen (ap {B = Run} (λ s. record { script = s; steps = t.found.steps ++ xs }) t.finds.same ∙ ap {B = Run}
+      (λ h. record { script = script; steps = h }) (sym seen-after)) t.left
 
 -- a turn that added nothing
 module _ (script : Script) (says : Run → Type 0) (p q : DevicePass) (t : DeviceTurn script says [] p q) where

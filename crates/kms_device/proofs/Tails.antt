@@ -1,5 +1,6 @@
 -- The first step of a commit's tail that is legal.
-use Rattle.std.proofs.Common.{◌≡◌, ℕ, ◌<◌, List, [], ◌∷◌, ◌++◌, map, cond, Option, Some, Bool, true, false, refl, sym, ap, ◌∙◌, arith, inl, All}
+use Rattle.std.proofs.Common.{◌≡◌, ℕ, ◌<◌, List, [], ◌∷◌, ◌++◌, map, cond, Option, Some, Bool, true, false, refl, sym, ap, ◌∙◌, arith, inl}
+use Rattle.std.proofs.Common.{All}
 use Rattle.std.specs.Prelude.{find, nat_le, not}
 use Rattle.std.specs.List.{range_with_len}
 use Rattle.std.specs.Option.{option_map, option_or, option_to_list}
@@ -51,12 +52,16 @@ first_told r k crtc plane flush ec ep ef =
     let flushes = for_each t Crtc (λ kind index. step.Flush k kind index) in
     let ends = step.HwDone k ∷ step.Cleanup k ∷ [] in
     let of_flushes : option_or (option_map (step.Flush k Crtc) flush) (find p ends) ≡ find p (flushes ++ ends) =
-    ap (λ o. option_or o (find p ends)) (ap (option_map (step.Flush k Crtc)) ef ∙ sym (mapped p (step.Flush k Crtc) (range_with_len 0 t.crtcs)))
+    ap (λ o. option_or o (find p ends)) (ap (option_map (step.Flush k Crtc)) ef ∙ sym
+    (mapped p (step.Flush k Crtc) (range_with_len 0 t.crtcs)))
     ∙ sym (find-append p flushes ends) in
-    let of_planes : option_or (option_map (step.Write k Plane) plane) (option_or (option_map (step.Flush k Crtc) flush) (find p ends)) ≡ find p (planes ++ (flushes ++ ends)) =
-    (λ i. option_or ((ap (option_map (step.Write k Plane)) ep ∙ sym (mapped p (step.Write k Plane) (range_with_len 0 (count_of t Plane)))) i) (of_flushes i))
+    let of_planes : option_or (option_map (step.Write k Plane) plane) (option_or (option_map (step.Flush k Crtc) flush) (find p ends))
+    ≡ find p (planes ++ (flushes ++ ends)) =
+    (λ i. option_or ((ap (option_map (step.Write k Plane)) ep ∙ sym (mapped p (step.Write k Plane) (range_with_len 0 (count_of t Plane))))
+    i) (of_flushes i))
     ∙ sym (find-append p planes (flushes ++ ends)) in
-    (λ i. option_or ((ap (option_map (step.Write k Crtc)) ec ∙ sym (mapped p (step.Write k Crtc) (range_with_len 0 t.crtcs))) i) (of_planes i))
+    (λ i. option_or ((ap (option_map (step.Write k Crtc)) ec ∙ sym (mapped p (step.Write k Crtc) (range_with_len 0 t.crtcs))) i)
+    (of_planes i))
     ∙ sym (find-append p crtcs (planes ++ (flushes ++ ends)))
 
 -- Whose the steps are
@@ -73,7 +78,8 @@ each : (P : Step → Type 0) (f : ℕ → Step) (xs : List ℕ) → ((i : ℕ) �
 each P f [] holds = All-nil P
 each P f (x ∷ xs) holds = All-cons P (f x) (map f xs) (holds x) (each P f xs holds)
 
-pub of_tail : (P : Step → Type 0) (t : Topology) (k : ℕ) → ((kind : Kind) (i : ℕ) → P (step.Write k kind i)) → ((i : ℕ) → P (step.Flush k Crtc i)) → P (step.HwDone k) → P (step.Cleanup k) → All P (tail_of t k)
+pub of_tail : (P : Step → Type 0) (t : Topology) (k : ℕ) → ((kind : Kind) (i : ℕ) → P (step.Write k kind i))
+    → ((i : ℕ) → P (step.Flush k Crtc i)) → P (step.HwDone k) → P (step.Cleanup k) → All P (tail_of t k)
 of_tail P t k writes flushes done cleaned =
     let ends = All-cons P (step.HwDone k) (step.Cleanup k ∷ []) done (All-cons P (step.Cleanup k) [] cleaned (All-nil P)) in
     All-append P _ _ (each P (step.Write k Crtc) (range_with_len 0 (count_of t Crtc)) (writes Crtc))
@@ -86,7 +92,8 @@ plain_tail client r k =
     let t = r.script.topology in
     record {
       plain = found_of IsPlain (is_legal r) (tail_of t k) (of_tail IsPlain t k (λ kind i. refl) (λ i. refl) refl refl);
-      owners = found_of (IsOf client) (is_legal r) (tail_of t k) (of_tail (IsOf client) t k (λ kind i. inl refl) (λ i. inl refl) (inl refl) (inl refl));
+      owners = found_of (IsOf client) (is_legal r) (tail_of t k)
+          (of_tail (IsOf client) t k (λ kind i. inl refl) (λ i. inl refl) (inl refl) (inl refl));
     }
 
 -- Writes
@@ -101,7 +108,8 @@ few_index r k kind i formed h =
     let few = few_of r.script.topology kind (few_objects r.script.topology formed.device) in
     omega (arith, low, few)
 
-module _ (r : Run) (k : ℕ) (kind : Kind) (i : ℕ) (few : i < 100) (id : ObjId) (is : id.0 ≡ object_id kind i) (h : is_legal r (step.Write k kind i) ≡ true) where
+module _ (r : Run) (k : ℕ) (kind : Kind) (i : ℕ) (few : i < 100) (id : ObjId) (is : id.0 ≡ object_id kind i)
+    (h : is_legal r (step.Write k kind i) ≡ true) where
   of_kind : kind_of id.0 ≡ kind
   of_kind = ap kind_of is ∙ kind_of-object kind i few
 

@@ -1,5 +1,6 @@
 -- The client whose context has a ticket.
-use Rattle.std.proofs.Common.{◌≡◌, ℕ, zero, suc, ◌+◌, ◌-◌, ◌<◌, ◌≤◌, Bool, true, false, Option, Some, None, refl, sym, ap, ◌∙◌, arith, subst, inl, inr}
+use Rattle.std.proofs.Common.{◌≡◌, ℕ, zero, suc, ◌+◌, ◌-◌, ◌<◌, ◌≤◌, Bool, true, false, Option, Some, None, refl, sym, ap, ◌∙◌, arith}
+use Rattle.std.proofs.Common.{subst, inl, inr}
 use Rattle.std.specs.Prelude.{if◌then◌else◌}
 use Rattle.std.proofs.lemmas.Bool.{cases_lt, eq-eqb, eqb-true, false≢true}
 use Rattle.kms_model.specs.declared.objects.Ticket.{Ticket}
@@ -39,19 +40,23 @@ taking-context (doing.Returning k) t h = absurd (false≢true h)
 
 -- where tickets are unique, the client that takes locks with a ticket is the one that is found
 pub taker-is : (m : Machine) (client : ℕ) (t : Ticket) → 1 ≤ client → client ≤ 16 → doing_at m client ≡ doing.Taking t
-    → ((a b : ℕ) → has_context (doing_at m a) ≡ true → has_context (doing_at m b) ≡ true → ticket_of (doing_at m a) ≡ ticket_of (doing_at m b) → a ≡ b) → taker m t.0 ≡ client
-taker-is m client t low high taking unique = ap number_or_0 (first-found (taker_at (doing_at m) t.0) 16 (client - 1) client (omega (arith, low, high)) here before)
+    → ((a b : ℕ) → has_context (doing_at m a) ≡ true → has_context (doing_at m b) ≡ true → ticket_of (doing_at m a)
+    ≡ ticket_of (doing_at m b) → a ≡ b) → taker m t.0 ≡ client
+taker-is m client t low high taking unique = ap number_or_0
+    (first-found (taker_at (doing_at m) t.0) 16 (client - 1) client (omega (arith, low, high)) here before)
   where
     number : client - 1 + 1 ≡ client
     number = omega (arith, low)
 
     test : has_value t.0 (ticket_taking (doing_at m (client - 1 + 1))) ≡ true
-    test = ap (λ n. has_value t.0 (ticket_taking (doing_at m n))) number ∙ (ap (λ d. has_value t.0 (ticket_taking d)) taking ∙ eq-eqb t.0 t.0 refl)
+    test = ap (λ n. has_value t.0 (ticket_taking (doing_at m n))) number ∙
+        (ap (λ d. has_value t.0 (ticket_taking d)) taking ∙ eq-eqb t.0 t.0 refl)
 
     here : taker_at (doing_at m) t.0 (client - 1) ≡ Some client
     here = ap (λ b. if b then Some (client - 1 + 1) else None) test ∙ ap Some number
 
-    other : (j : ℕ) → j < client - 1 → (b : Bool) → has_value t.0 (ticket_taking (doing_at m (j + 1))) ≡ b → (if b then Some (j + 1) else None) ≡ None
+    other : (j : ℕ) → j < client - 1 → (b : Bool) → has_value t.0 (ticket_taking (doing_at m (j + 1))) ≡ b
+        → (if b then Some (j + 1) else None) ≡ None
     other j l false is = refl
     other j l true is =
         let there = taking-context (doing_at m (j + 1)) t.0 is in

@@ -1,5 +1,6 @@
 -- From a turn at the lock to what a call of the device did.
-use Rattle.std.proofs.Common.{◌≡◌, ◌⊎◌, ℕ, ◌+◌, ◌-◌, List, [], ◌∷◌, ◌++◌, length, append-nil, length-append, Option, Some, None, Bool, true, false, Result, Ok, Err, refl, sym, ap, ◌∙◌, subst, inl, inr, arith, All}
+use Rattle.std.proofs.Common.{◌≡◌, ◌⊎◌, ℕ, ◌+◌, ◌-◌, List, [], ◌∷◌, ◌++◌, length, append-nil, length-append, Option, Some, None, Bool, true}
+use Rattle.std.proofs.Common.{false, Result, Ok, Err, refl, sym, ap, ◌∙◌, subst, inl, inr, arith, All}
 use Rattle.std.proofs.lemmas.List.Elements.{All-nil, All-cons}
 use Rattle.std.specs.Fn.{FnOnceReturnsAtMut, Once}
 use denote.Ref.{MutBor}
@@ -31,13 +32,16 @@ abbrev pub fixed : Run → Script
 fixed r = r.script
 
 -- what may be found at the lock is what a call may find
-pub finds_of : (script its : Script) (pass : DevicePass) (x : Run) → its ≡ script → MayFind owner entries blankings fixed IsOpen its pass x → MayBeFound script pass x
+pub finds_of : (script its : Script) (pass : DevicePass) (x : Run) → its ≡ script → MayFind owner entries blankings fixed IsOpen its pass x
+    → MayBeFound script pass x
 finds_of script its pass x same f = record { history = f.history; same = f.same ∙ same; is_open = f.is_sound }
 
 -- What a call added, by the steps that its answer names.
-pub turn_of : {F R : Type 0} (g : Once F (MutBor Run × Unit {0}) (R × (MutBor Run × Unit {0}))) (f : F) (r : R) (script : Script) (says : Run → Type 0) (es : List Step) (before after : DevicePass)
+pub turn_of : {F R : Type 0} (g : Once F (MutBor Run × Unit {0}) (R × (MutBor Run × Unit {0}))) (f : F) (r : R) (script : Script)
+    (says : Run → Type 0) (es : List Step) (before after : DevicePass)
     → Called script g f r before after
-    → ((x y : Run) → MayBeFound script before x → FnOnceReturnsAtMut g f x r y → says x × (y ≡ gains x es)) → DeviceTurn script says es before after
+    → ((x y : Run) → MayBeFound script before x → FnOnceReturnsAtMut g f x r y → says x × (y ≡ gains x es))
+    → DeviceTurn script says es before after
 turn_of {F} {R} g f r script says es before after t tells =
     let told = tells t.found t.left t.finds t.called in
     let steps : t.left.steps ≡ t.found.steps ++ es = ap entries told.1 in
@@ -69,13 +73,18 @@ pub none_of : (client : ℕ) → ArePlainOf client []
 none_of client = record { plain = All-nil IsPlain; owners = All-nil (IsOf client) }
 
 pub one_of : (client : ℕ) (x : Step) → is_plain x ≡ true → (owner x ≡ 0) ⊎ (owner x ≡ client) → ArePlainOf client (x ∷ [])
-one_of client x plain own = record { plain = All-cons IsPlain x [] plain (All-nil IsPlain); owners = All-cons (IsOf client) x [] own (All-nil (IsOf client)) }
+one_of client x plain own = record {
+  plain = All-cons IsPlain x [] plain (All-nil IsPlain);
+  owners = All-cons (IsOf client) x [] own
+      (All-nil (IsOf client));
+}
 
 pub one_if : (client : ℕ) (b : Bool) (x : Step) → is_plain x ≡ true → owner x ≡ 0 → ArePlainOf client (step_if b x)
 one_if client true x plain own = one_of client x plain (inl own)
 one_if client false x plain own = none_of client
 
-pub one_if_ok : {A E : Type 0} (client : ℕ) (r : Result A E) (x : Step) → is_plain x ≡ true → owner x ≡ client → ArePlainOf client (if_ok r (λ a. x ∷ []))
+pub one_if_ok : {A E : Type 0} (client : ℕ) (r : Result A E) (x : Step) → is_plain x ≡ true → owner x ≡ client
+    → ArePlainOf client (if_ok r (λ a. x ∷ []))
 one_if_ok client (Ok a) x plain own = one_of client x plain (inr own)
 one_if_ok client (Err e) x plain own = none_of client
 
@@ -87,7 +96,8 @@ none_more x = ap {B = Run} (λ xs. record { script = x.script; steps = xs }) (sy
 pub adds_none : (client : ℕ) (x y : Run) → y ≡ x → AddsPlainOf client x y
 adds_none client x y same = adds_of client x y [] (none_of client) (same ∙ none_more x)
 
-pub turn_same : {F R : Type 0} (g : Once F (MutBor Run × Unit {0}) (R × (MutBor Run × Unit {0}))) (f : F) (r : R) (script : Script) (says : Run → Type 0) (before after : DevicePass)
+pub turn_same : {F R : Type 0} (g : Once F (MutBor Run × Unit {0}) (R × (MutBor Run × Unit {0}))) (f : F) (r : R) (script : Script)
+    (says : Run → Type 0) (before after : DevicePass)
     → Called script g f r before after
     → ((x y : Run) → MayBeFound script before x → FnOnceReturnsAtMut g f x r y → says x × (y ≡ x)) → DeviceTurn script says [] before after
 turn_same g f r script says before after t tells =
@@ -118,7 +128,8 @@ relocks_of client (Ok (locked.Younger holder)) = none_of client
 relocks_of client (Ok (locked.Held holder)) = none_of client
 relocks_of client (Err e) = none_of client
 
-pub decides_of : {E : Type 0} (client : ℕ) (r : Result Decided E) (x : Step) → is_plain x ≡ true → owner x ≡ client → ArePlainOf client (if_ok r (steps_of client x))
+pub decides_of : {E : Type 0} (client : ℕ) (r : Result Decided E) (x : Step) → is_plain x ≡ true → owner x ≡ client
+    → ArePlainOf client (if_ok r (steps_of client x))
 decides_of client (Ok (decided.Done reply)) x plain own = one_of client x plain (inr own)
 decides_of client (Ok (decided.Refused reply)) x plain own = one_of client (Refuse client) refl (inr refl)
 decides_of client (Ok (decided.NotYet object commit)) x plain own = none_of client

@@ -18,7 +18,8 @@ use Rattle.kms_histlock.specs.Rules.{IsStart}
 use Rattle.kms_core.specs.Run.{Run, machine}
 use Rattle.kms_device.specs.declared.attempt.Findings.{Findings}
 use Rattle.kms_device.specs.declared.attempt.Attempted.TheVariants as attempted
-use Rattle.kms_device.specs.Attempts.{ComesNext, ComesNextAt, FindsRequest, MayAttempt, Serves, StaysAt, Stepped, WaitsAt, looks_after, states_after, Went, no_findings}
+use Rattle.kms_device.specs.Attempts.{ComesNext, ComesNextAt, FindsRequest, MayAttempt, Serves, StaysAt, Stepped, WaitsAt, looks_after}
+use Rattle.kms_device.specs.Attempts.{states_after, Went, no_findings}
 use Rattle.kms_device.specs.Steps.{owner}
 use Rattle.kms_device.specs.Trying.{DidAndKeeps, DidNothing, IsReady}
 use Rattle.kms_device.specs.Turns.{DevicePass, DeviceTurn, run_seen}
@@ -27,7 +28,8 @@ use Rattle.kms_device.proofs.Stepping.{found-is, found-place, legal-found, may_a
 use Rattle.kms_device.proofs.Went.{one_own, went_turn}
 
 -- what a turn finds: the client stands where it stood
-pub finds_request : (script : Script) (says : Run → Type 0) (xs : List Step) (p q : DevicePass) (t : DeviceTurn script says xs p q) → FindsRequest script p.rank p t.found
+pub finds_request : (script : Script) (says : Run → Type 0) (xs : List Step) (p q : DevicePass) (t : DeviceTurn script says xs p q)
+    → FindsRequest script p.rank p t.found
 finds_request script says xs p q t = record {
   same = t.finds.same;
   is_open = t.finds.is_open;
@@ -36,7 +38,8 @@ finds_request script says xs p q t = record {
 }
 
 -- where a client stands after it began something else at its command
-pub place-now : (m : Machine) (client : ℕ) (d : Doing) → place_at (now_doing m client d) client ≡ record { command = (place_at m client).command; doing = d }
+pub place-now : (m : Machine) (client : ℕ) (d : Doing) → place_at (now_doing m client d) client
+    ≡ record { command = (place_at m client).command; doing = d }
 place-now m client d = read_same _ m.contexts.places client _
 
 module _ (script : Script) (says : Run → Type 0) (p q : DevicePass) (kept : Findings) (ready : IsReady script p kept) where
@@ -46,19 +49,23 @@ module _ (script : Script) (says : Run → Type 0) (p q : DevicePass) (kept : Fi
     went_on = went_turn script says [] p q refl t
 
     pub doing-after : doing_at (machine (run_seen script q)) p.rank ≡ doing_at (machine (run_seen script p)) p.rank
-    doing-after = ap (λ (r : Run). doing_at (machine r) p.rank) (found-is script says p q t) ∙ ap (λ (x : Place). x.doing) (found-place script says [] p q t)
+    doing-after = ap (λ (r : Run). doing_at (machine r) p.rank) (found-is script says p q t) ∙ ap (λ (x : Place). x.doing)
+        (found-place script says [] p q t)
 
     pub command-after : (place_at (machine (run_seen script q)) p.rank).command ≡ (place_at (machine (run_seen script p)) p.rank).command
-    command-after = ap (λ (r : Run). (place_at (machine r) p.rank).command) (found-is script says p q t) ∙ ap (λ (x : Place). x.command) (found-place script says [] p q t)
+    command-after = ap (λ (r : Run). (place_at (machine r) p.rank).command) (found-is script says p q t) ∙ ap (λ (x : Place). x.command)
+        (found-place script says [] p q t)
 
     pub may_after : MayAttempt (run_seen script q) p.rank
-    may_after = may_again (run_seen script p) (run_seen script q) p.rank refl command-after (ap returning_of doing-after ∙ ready.may.awake) ready.may
+    may_after = may_again (run_seen script p) (run_seen script q) p.rank refl command-after (ap returning_of doing-after ∙ ready.may.awake)
+        ready.may
 
     pub stays_after : StaysAt (run_seen script p) (run_seen script q) p.rank
     stays_after = record { may = may_after; command = command-after }
 
     pub serves_after : Serves (run_seen script q) p.rank kept
-    serves_after = subst (λ r. Serves r p.rank kept) (sym (found-is script says p q t)) (serves_found script p t.found t.finds kept ready.serves)
+    serves_after = subst (λ r. Serves r p.rank kept) (sym (found-is script says p q t))
+        (serves_found script p t.found t.finds kept ready.serves)
 
     pub nothing_done : DidNothing script p q
     nothing_done = record { went = went_on; stays = record { may = may_after; command = command-after } }
@@ -75,7 +82,8 @@ module _ (script : Script) (says : Run → Type 0) (p q : DevicePass) (kept : Fi
         rank = ap (λ (z : DevicePass). z.rank) t.now
 
     -- the step that comes next is not legal in what was found
-    pub waits_for : (used : List (ℕ × Look)) (x : Step) → kept.looks ≡ looks_after kept used x → WaitsAt (doing_at (machine t.found) p.rank) p.seen t.found p.rank kept used x
+    pub waits_for : (used : List (ℕ × Look)) (x : Step) → kept.looks ≡ looks_after kept used x
+        → WaitsAt (doing_at (machine t.found) p.rank) p.seen t.found p.rank kept used x
         → legal t.found.script (machine t.found) x ≡ false → DidAndKeeps script p kept q (attempted.NotYet (length q.seen)) kept
     waits_for used x looks waits illegal = record {
       is_attempt = record {
@@ -125,13 +133,25 @@ module _ (script : Script) (says : Run → Type 0) (p q : DevicePass) (kept : Fi
     begins = (x ∷ [], seen-after script says (x ∷ []) p q t)
 
     -- it goes on at its command
-    pub stepped_on : (keeps : Findings) (used : List (ℕ × Look)) → keeps.looks ≡ looks_after kept used x → keeps.states ≡ states_after t.found p.rank kept.states x → ComesNext p.seen t.found p.rank kept used x → (next script (machine t.found) x).records.replies ≡ (machine t.found).records.replies
+    pub stepped_on : (keeps : Findings) (used : List (ℕ × Look)) → keeps.looks ≡ looks_after kept used x → keeps.states
+        ≡ states_after t.found p.rank kept.states x → ComesNext p.seen t.found p.rank kept used x
+        → (next script (machine t.found) x).records.replies ≡ (machine t.found).records.replies
         → (place_at (next script (machine t.found) x) p.rank).command ≡ (place_at (machine t.found) p.rank).command
         → returning_of (doing_at (next script (machine t.found) x) p.rank) ≡ None
         → Serves (run_seen script q) p.rank keeps → DidAndKeeps script p kept q attempted.Did keeps
     stepped_on keeps used looks states comes silent command awake serves = record {
-      is_attempt = inl (record { stepped = stepped used comes; looks = looks; states = states; silent = ap (λ (m : Machine). m.records.replies) now ∙ silent });
-      goes_on = record { may = may_again (run_seen script p) (run_seen script q) p.rank refl same_command (ap (λ m. returning_of (doing_at m p.rank)) now ∙ awake) ready.may; command = same_command };
+      is_attempt = inl (record {
+        stepped = stepped used comes;
+        looks = looks;
+        states = states;
+        silent = ap
+            (λ (m : Machine). m.records.replies) now ∙ silent;
+      });
+      goes_on = record {
+        may = may_again (run_seen script p) (run_seen script q) p.rank refl same_command
+            (ap (λ m. returning_of (doing_at m p.rank)) now ∙ awake) ready.may;
+        command = same_command;
+      };
       serves = serves;
     }
       where
@@ -144,27 +164,34 @@ module _ (script : Script) (says : Run → Type 0) (p q : DevicePass) (kept : Fi
     -- what was kept serves after a step that changes no state and drops no lock
     pub serves-next : (next script (machine t.found) x).device.world ≡ (machine t.found).device.world
         → ((object : ℕ) → holds (machine t.found) p.rank object ≡ true → holds (next script (machine t.found) x) p.rank object ≡ true)
-        → (place_at (next script (machine t.found) x) p.rank).command ≡ (place_at (machine t.found) p.rank).command → Serves (run_seen script q) p.rank kept
+        → (place_at (next script (machine t.found) x) p.rank).command ≡ (place_at (machine t.found) p.rank).command
+        → Serves (run_seen script q) p.rank kept
     serves-next same keeps command =
-        serves_later t.found (run_seen script q) p.rank kept (sym t.finds.same) begins (ap (λ m. (place_at m p.rank).command) now ∙ command) (ap (λ (m : Machine). m.device.world) now ∙ same)
+        serves_later t.found (run_seen script q) p.rank kept (sym t.finds.same) begins (ap (λ m. (place_at m p.rank).command) now ∙ command)
+        (ap (λ (m : Machine). m.device.world) now ∙ same)
         (λ object held. ap (λ m. holds m p.rank object) now ∙ keeps object held) serves-found
       where
         now : machine (run_seen script q) ≡ next script (machine t.found) x
         now = next-after script says x p q t
 
   -- A context begins.
-  pub began : doing_at (machine (run_seen script p)) p.rank ≡ doing.Idle → DeviceTurn script says (step.Begin p.rank ∷ []) p q → DidAndKeeps script p kept q attempted.Did no_findings
+  pub began : doing_at (machine (run_seen script p)) p.rank ≡ doing.Idle → DeviceTurn script says (step.Begin p.rank ∷ []) p q
+      → DidAndKeeps script p kept q attempted.Did no_findings
   unfolding next
   began idle t =
       stepped_on (step.Begin p.rank) refl t no_findings [] refl refl
-      (subst (λ d. ComesNextAt d p.seen t.found p.rank kept [] (step.Begin p.rank)) (sym (doing-found (step.Begin p.rank) refl t ∙ idle)) refl)
+      (subst (λ d. ComesNextAt d p.seen t.found p.rank kept [] (step.Begin p.rank)) (sym (doing-found (step.Begin p.rank) refl t ∙ idle))
+      refl)
       refl
-      (ap (λ (z : Place). z.command) (place-now (machine t.found) p.rank (doing.Taking (record { 0 = (machine t.found).contexts.tickets }))))
-      (ap (λ (z : Place). returning_of z.doing) (place-now (machine t.found) p.rank (doing.Taking (record { 0 = (machine t.found).contexts.tickets }))))
+      (ap (λ (z : Place). z.command) (place-now (machine t.found) p.rank
+      (doing.Taking (record { 0 = (machine t.found).contexts.tickets }))))
+      (ap (λ (z : Place). returning_of z.doing) (place-now (machine t.found) p.rank
+      (doing.Taking (record { 0 = (machine t.found).contexts.tickets }))))
       (serves_new (run_seen script q) p.rank)
 
   -- It gives way.
-  pub gave_way : (ticket : Ticket) (object : ObjId) → doing_at (machine (run_seen script p)) p.rank ≡ doing.MustBackOff ticket object → DeviceTurn script says (step.BackOff p.rank ∷ []) p q
+  pub gave_way : (ticket : Ticket) (object : ObjId) → doing_at (machine (run_seen script p)) p.rank ≡ doing.MustBackOff ticket object
+      → DeviceTurn script says (step.BackOff p.rank ∷ []) p q
       → DidAndKeeps script p kept q attempted.Did (record kept { states = no_findings.states })
   unfolding next
   gave_way ticket object must t =
@@ -173,7 +200,9 @@ module _ (script : Script) (says : Run → Type 0) (p q : DevicePass) (kept : Fi
       refl command
       (ap (λ (z : Place). returning_of z.doing) place ∙ ap (λ d. returning_of (backed_off d)) there)
       (record {
-        looks = λ used is. looked_later t.found (run_seen script q) p.rank used (sym t.finds.same) (begins (step.BackOff p.rank) refl t) (ap (λ m. (place_at m p.rank).command) (next-after script says (step.BackOff p.rank) p q t) ∙ command) ((serves-found (step.BackOff p.rank) refl t).looks used is);
+        looks = λ used is. looked_later t.found (run_seen script q) p.rank used (sym t.finds.same) (begins (step.BackOff p.rank) refl t)
+            (ap (λ m. (place_at m p.rank).command) (next-after script says (step.BackOff p.rank) p q t) ∙ command)
+            ((serves-found (step.BackOff p.rank) refl t).looks used is);
         states = none_of_locks (run_seen script q) p.rank;
         fresh = none_fresh;
       })
@@ -181,8 +210,10 @@ module _ (script : Script) (says : Run → Type 0) (p q : DevicePass) (kept : Fi
       there : doing_at (machine t.found) p.rank ≡ doing.MustBackOff ticket object
       there = doing-found (step.BackOff p.rank) refl t ∙ must
 
-      place : place_at (now_doing (machine t.found) p.rank (backed_off (doing_at (machine t.found) p.rank))) p.rank ≡ record { command = (place_at (machine t.found) p.rank).command; doing = backed_off (doing_at (machine t.found) p.rank) }
+      place : place_at (now_doing (machine t.found) p.rank (backed_off (doing_at (machine t.found) p.rank))) p.rank
+          ≡ record { command = (place_at (machine t.found) p.rank).command; doing = backed_off (doing_at (machine t.found) p.rank) }
       place = place-now (machine t.found) p.rank (backed_off (doing_at (machine t.found) p.rank))
 
-      command : (place_at (next script (machine t.found) (step.BackOff p.rank)) p.rank).command ≡ (place_at (machine t.found) p.rank).command
+      command : (place_at (next script (machine t.found) (step.BackOff p.rank)) p.rank).command
+          ≡ (place_at (machine t.found) p.rank).command
       command = ap (λ (z : Place). z.command) place

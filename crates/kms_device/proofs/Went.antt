@@ -1,5 +1,6 @@
 -- Turns of a pass, one after the other.
-use Rattle.std.proofs.Common.{◌≡◌, ◌≢◌, ℕ, List, [], ◌∷◌, ◌++◌, append-nil, append_assoc, length-append, cond, refl, sym, ap, ◌∙◌, subst, arith, All}
+use Rattle.std.proofs.Common.{◌≡◌, ◌≢◌, ℕ, List, [], ◌∷◌, ◌++◌, append-nil, append_assoc, length-append, cond, refl, sym, ap, ◌∙◌, subst}
+use Rattle.std.proofs.Common.{arith, All}
 use Rattle.std.specs.Prelude.{◌==◌}
 use Rattle.std.proofs.lemmas.Bool.{eq-eqb, ne_eqb}
 use Rattle.std.proofs.lemmas.List.Elements.{All-head, All-tail, filter-append}
@@ -25,7 +26,17 @@ own-append : (client : ℕ) (xs ys : List Step) → own_steps client (xs ++ ys) 
 own-append client xs ys = filter-append (λ step. owner step == client) xs ys
 
 pub went_not : (p : DevicePass) → Went [] p p
-went_not p = record { lock = refl; rank = refl; more = []; grows = sym (append-nil p.seen); own = refl; made = omega arith; length_read = refl; counts_read = refl }
+went_not p = record {
+  lock = refl;
+  rank = refl;
+  more = [];
+  grows = sym (append-nil p.seen);
+  own = refl;
+  made = omega arith;
+  length_read =
+      refl;
+  counts_read = refl;
+}
 
 -- turns after others
 pub went_both : (xs ys : List Step) (p q r : DevicePass) → Went xs p q → Went ys q r → Went (xs ++ ys) p r
@@ -34,14 +45,16 @@ went_both xs ys p q r w v = record {
   rank = v.rank ∙ w.rank;
   more = w.more ++ v.more;
   grows = v.grows ∙ (ap (λ zs. zs ++ v.more) w.grows ∙ append_assoc p.seen w.more v.more);
-  own = own-append p.rank w.more v.more ∙ (ap (λ zs. zs ++ own_steps p.rank v.more) w.own ∙ ap (λ zs. xs ++ zs) (ap (λ n. own_steps n v.more) (sym w.rank) ∙ v.own));
+  own = own-append p.rank w.more v.more ∙ (ap (λ zs. zs ++ own_steps p.rank v.more) w.own ∙ ap (λ zs. xs ++ zs)
+      (ap (λ n. own_steps n v.more) (sym w.rank) ∙ v.own));
   made = let long = length-append xs ys in let a = w.made in let b = v.made in omega arith;
   length_read = v.length_read ∙ w.length_read;
   counts_read = v.counts_read ∙ w.counts_read;
 }
 
 -- one turn
-pub went_turn : (script : Script) (says : Run → Type 0) (xs : List Step) (p q : DevicePass) → own_steps p.rank xs ≡ xs → DeviceTurn script says xs p q → Went xs p q
+pub went_turn : (script : Script) (says : Run → Type 0) (xs : List Step) (p q : DevicePass) → own_steps p.rank xs ≡ xs
+    → DeviceTurn script says xs p q → Went xs p q
 went_turn script says xs p q own t =
     let rest = t.finds.history.begins.0 in record {
       lock = ap (λ (z : DevicePass). z.lock) t.now;

@@ -104,7 +104,8 @@ pub record MayAskFor (r : Run) (client : ℕ) (t : Ticket) (id : ObjId) : Type 0
   pub asks : IsResolved r.script.topology (look_up (world (record r { steps = early }))) takes.request resolved
   pub duplicates : Duplicates
   pub taken : AreOfLocks r client duplicates
-  pub touched : (w : World) → IsOfRequest r.script.topology w takes.request resolved duplicates → touches r.script.topology w takes.request id.0 ≡ true
+  pub touched : (w : World) → IsOfRequest r.script.topology w takes.request resolved duplicates
+      → touches r.script.topology w takes.request id.0 ≡ true
 
 -- the object is next by the groups, or a check has asked for it
 abbrev pub MayLockNext : Run → ℕ → Ticket → ObjId → Type 0
@@ -138,7 +139,8 @@ pub record MayBeRefused (r : Run) (client : ℕ) (t : Ticket) (used : List (ℕ 
   pub due : IsRefusedEarly r used request why ⊎ IsRefusedWith r client used request why
 
 -- What was checked, as a check gives it with such duplicates, which refuses nothing; the context holds what the request touches.
-pub record IsAcceptedWith (r : Run) (client : ℕ) (used : List (ℕ × Look)) (request : Request) (resolved : Resolved) (checked : Checked) : Type 0 where
+pub record IsAcceptedWith (r : Run) (client : ℕ) (used : List (ℕ × Look)) (request : Request) (resolved : Resolved) (checked : Checked) :
+    Type 0 where
   pub duplicates : Duplicates
   pub asks : IsResolved r.script.topology (look_in used) request resolved
   pub taken : AreOfLocks r client duplicates
@@ -155,9 +157,10 @@ pub record MayBeTested (r : Run) (client : ℕ) (t : Ticket) (used : List (ℕ �
   pub test : is_test request.flags ≡ true
 
 -- it is accepted and is no test; what it touches was duplicated
-pub record MayBeSwapped (r : Run) (client : ℕ) (t : Ticket) (used : List (ℕ × Look)) (checked : Checked) (resolved : Resolved) : Type 0 where
-  pub request : Request
-  pub deciding : IsDecidingFor r client t used request
-  pub accepted : IsAcceptedWith r client used request resolved checked
-  pub states : HasStates checked
-  pub no_test : is_test request.flags ≡ false
+pub record MayBeSwapped (r : Run) (client : ℕ) (t : Ticket) (used : List (ℕ × Look)) (checked : Checked) (resolved : Resolved) : Type 0
+  where
+    pub request : Request
+    pub deciding : IsDecidingFor r client t used request
+    pub accepted : IsAcceptedWith r client used request resolved checked
+    pub states : HasStates checked
+    pub no_test : is_test request.flags ≡ false

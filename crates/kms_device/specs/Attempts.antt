@@ -1,6 +1,7 @@
 -- What an attempt at a client's request does. From: "Atomic Mode Setting"; "KMS Locking", `drm_modeset_lock.c` (the loop of
 -- drm_modeset_lock, drm_modeset_backoff and the contended lock). That an attempt makes at most one step is this device's own.
-use Rattle.std.specs.Prelude.{◌≡◌, ◌≢◌, ◌⊎◌, ⊤, All, Any, Bool, ℕ, ◌+◌, ◌==◌, true, false, List, [], ◌∷◌, ◌++◌, length, filter, is_none, is_some, Option, Some, None, if◌then◌else◌}
+use Rattle.std.specs.Prelude.{◌≡◌, ◌≢◌, ◌⊎◌, ⊤, All, Any, Bool, ℕ, ◌+◌, ◌==◌, true, false, List, [], ◌∷◌, ◌++◌, length, filter, is_none}
+use Rattle.std.specs.Prelude.{is_some, Option, Some, None, if◌then◌else◌}
 use Rattle.kms_model.specs.Order.Turns.{lock_step}
 use Rattle.kms_model.specs.declared.objects.ObjId.{ObjId}
 use Rattle.kms_model.specs.declared.replies.Answered.{Answered}
@@ -159,9 +160,11 @@ taken_in d id s = if may_duplicate d id s then duplicated d id s else d
 -- the others.
 abbrev pub states_after : Run → ℕ → Duplicates → Step → Duplicates
 states_after r client d (step.Lock c kind index) =
-    if is_none (holder_at (machine r) (object_id kind index)) then taken_in d (object_id kind index) (present_state r (record { 0 = object_id kind index })) else d
+    if is_none (holder_at (machine r) (object_id kind index))
+    then taken_in d (object_id kind index) (present_state r (record { 0 = object_id kind index })) else d
 states_after r client d (step.Relock c) =
-    taken_in d (object_or_zero (contended (doing_at (machine r) client))).0 (present_state r (object_or_zero (contended (doing_at (machine r) client))))
+    taken_in d (object_or_zero (contended (doing_at (machine r) client))).0
+    (present_state r (object_or_zero (contended (doing_at (machine r) client))))
 states_after r client d _ = none_duplicated
 
 -- What an attempt did
@@ -269,7 +272,8 @@ pub record AnsweredBy (script : Script) (client : ℕ) (reply : Reply) (before a
 -- what an attempt did that answers so
 abbrev pub IsAttempt : Script → ℕ → DevicePass → Findings → DevicePass → Findings → Attempted → Type 0
 IsAttempt script client before old after new attempted.Did =
-    SteppedOn script client before after old new ⊎ (TookAgain script client before after old new ⊎ LookedAgain script client before after old new)
+    SteppedOn script client before after old new ⊎ (TookAgain script client before after old new
+    ⊎ LookedAgain script client before after old new)
 IsAttempt script client before old after new (attempted.NotYet n) = AttemptWaits script client n before after old new
 IsAttempt script client before old after new (attempted.Answered reply) = AnsweredBy script client reply before after old new
 
@@ -296,7 +300,8 @@ gives_reply _ = false
 abbrev pub AreAttempts : Script → ℕ → DevicePass → List MadeAttempt → DevicePass → Findings → Type 0
 AreAttempts script client before [] after kept = (after ≡ before) × (kept ≡ no_findings)
 AreAttempts script client before (made ∷ earlier) after kept =
-    AreAttempts script client before earlier made.pass made.kept × (IsAttempt script client made.pass made.kept after kept made.did × (gives_reply made.did ≡ false))
+    AreAttempts script client before earlier made.pass made.kept
+    × (IsAttempt script client made.pass made.kept after kept made.did × (gives_reply made.did ≡ false))
 
 -- Attempts of a client, the last of which recorded the reply to its command; nothing was done behind that. Their steps are all
 -- that the pass made.

@@ -84,7 +84,8 @@ kept_of id (locked.Younger holder) kept = kept
 kept_of id (locked.Held holder) kept = kept
 
 -- What came of an answer to a call that decides a request: the reply; or the look-ups were made anew, in a turn of their own.
-pub record LooksAnew (script : Script) (request : Request) (kept : Findings) (before after : DevicePass) (did : Attempted) (keeps : Findings)
+pub record LooksAnew (script : Script) (request : Request) (kept : Findings) (before after : DevicePass) (did : Attempted)
+    (keeps : Findings)
     : Type 0 where
   pub told : List (ℕ × Look)
   pub turn : DeviceTurn script (λ found. told ≡ lookups (world found) request) [] before after

@@ -48,10 +48,16 @@ pub record DeviceTurn (script : Script) (says : Run → Type 0) (steps : List St
   pub left : IsOpen (record found { steps = found.steps ++ steps })
 
 -- A call of the machine was made in one turn: `f` at what was found gave `r` and left a history.
-pub record Called {F R : Type 0} (script : Script) (g : Once F (MutBor Run × Unit {0}) (R × (MutBor Run × Unit {0}))) (f : F) (r : R) (before after : DevicePass) : Type 0 where
+pub record Called {F R : Type 0} (script : Script) (g : Once F (MutBor Run × Unit {0}) (R × (MutBor Run × Unit {0}))) (f : F) (r : R)
+    (before after : DevicePass) : Type 0 where
   pub found : Run
   pub left : Run
   pub finds : MayBeFound script before found
   pub called : FnOnceReturnsAtMut g f found r left
-  pub now : after ≡ record before { seen = left.steps; made = before.made + (length left.steps - length found.steps); turns = before.turns + 1 }
+  pub now : after ≡ record before {
+    seen = left.steps;
+    made = before.made + (length left.steps - length found.steps);
+    turns = before.turns
+        + 1;
+  }
   pub is_open : IsOpen left

@@ -11,7 +11,8 @@ use Rattle.kms_wwlock.specs.declared.table.Relock.TheVariants.{Held}
 use Rattle.kms_wwlock.specs.Objects.{lock_place}
 use Rattle.kms_wwlock.specs.Table.{Table, holder_of, doing_of, backed_off_for}
 use Rattle.kms_wwlock.specs.Calls.{lock_answer, relock_from}
-use Rattle.kms_wwlock.specs.Waits.{after_all, empty_table, ContextWaits, ForYounger, ForObject, ContextWaitsAlong, NoCycleOfContexts, BackedOffHoldsNothing, HoldersAreOpen}
+use Rattle.kms_wwlock.specs.Waits.{after_all, empty_table, ContextWaits, ForYounger, ForObject, ContextWaitsAlong, NoCycleOfContexts}
+use Rattle.kms_wwlock.specs.Waits.{BackedOffHoldsNothing, HoldersAreOpen}
 use Rattle.kms_wwlock.proofs.Sound.{MayHold, IsSound, always_sound}
 
 -- who is called younger holds the object, and is younger
@@ -54,11 +55,13 @@ rises table x y may (ForObject ask e) = absurd (neither (doing_of table x) may a
     neither (Some (BackedOff id)) may ask = may
     neither None may ask = may
 
-last_waited_for : (table : Table) (x : Ticket) (others : List Ticket) (z : Ticket) → IsSound table → ContextWaitsAlong table x others z → MayHold (doing_of table z)
+last_waited_for : (table : Table) (x : Ticket) (others : List Ticket) (z : Ticket) → IsSound table → ContextWaitsAlong table x others z
+    → MayHold (doing_of table z)
 last_waited_for table x [] z s waits = waited_for table x z s waits
 last_waited_for table x (y ∷ ys) z s waits = last_waited_for table y ys z s waits.1
 
-rises_along : (table : Table) (x : Ticket) (others : List Ticket) (z : Ticket) → IsSound table → MayHold (doing_of table x) → ContextWaitsAlong table x others z → x.0 < z.0
+rises_along : (table : Table) (x : Ticket) (others : List Ticket) (z : Ticket) → IsSound table → MayHold (doing_of table x)
+    → ContextWaitsAlong table x others z → x.0 < z.0
 rises_along table x [] z s may waits = rises table x z may waits
 rises_along table x (y ∷ ys) z s may waits =
     let first : x.0 < y.0 = rises table x y may waits.0 in

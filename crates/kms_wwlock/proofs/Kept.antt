@@ -1,5 +1,6 @@
 -- What holds of the contexts of every table is kept.
-use Rattle.std.proofs.Common.{◌≡◌, ℕ, ◌+◌, ◌≤◌, ◌≢◌, ◌==◌, Bool, true, false, List, [], ◌∷◌, ◌++◌, length, map, take, drop, Some, None, refl, sym, ap, ◌∙◌, subst, arith}
+use Rattle.std.proofs.Common.{◌≡◌, ℕ, ◌+◌, ◌≤◌, ◌≢◌, ◌==◌, Bool, true, false, List, [], ◌∷◌, ◌++◌, length, map, take, drop, Some, None}
+use Rattle.std.proofs.Common.{refl, sym, ap, ◌∙◌, subst, arith}
 use Rattle.std.proofs.lemmas.Bool.{cond-false, ne_eqb}
 use Rattle.std.proofs.Math.Seq.{take-append_seam}
 use Rattle.std.proofs.lemmas.List.Elements.{All-nil, All-cons, All-head, All-tail, All-push, All-weaker, All-filter}
@@ -16,7 +17,8 @@ pub named : (t : Ticket) (d : ContextDoing) (cs : List Context) → All NamesLoc
 named t d [] all is = cc
 named t d (c ∷ cs) all is = step (c.ticket.0 == t.0) is (named t d cs (All-tail NamesLockable c cs all))
   where
-    step : (b : Bool) → (if b then Some c.doing else doing_in_contexts cs t) ≡ Some d → (doing_in_contexts cs t ≡ Some d → IsOfLockable d) → IsOfLockable d
+    step : (b : Bool) → (if b then Some c.doing else doing_in_contexts cs t) ≡ Some d → (doing_in_contexts cs t ≡ Some d → IsOfLockable d)
+        → IsOfLockable d
     step true is rest = let same : c.doing ≡ d = cc in subst IsOfLockable same (All-head NamesLockable c cs all)
     step false is rest = rest is
 
@@ -31,7 +33,8 @@ each_set P t d (c ∷ cs) keeps all =
     step true = keeps c (All-head P c cs all)
     step false = All-head P c cs all
 
-pub set_kept : (t : Ticket) (d : ContextDoing) (cs : List Context) (drawn : ℕ) → IsOfLockable d → AreOfTable cs drawn → AreOfTable (map (with_doing t d) cs) drawn
+pub set_kept : (t : Ticket) (d : ContextDoing) (cs : List Context) (drawn : ℕ) → IsOfLockable d → AreOfTable cs drawn
+    → AreOfTable (map (with_doing t d) cs) drawn
 set_kept t d cs drawn now kept =
     record {
       lockable = each_set NamesLockable t d cs (λ c h. now) kept.lockable;
@@ -54,11 +57,13 @@ others_kept test cs drawn kept =
     record { lockable = All-filter test NamesLockable cs kept.lockable; below = All-filter test (IsBelow drawn) cs kept.below }
 
 -- a context that begins with the next ticket
-pub begun_kept : (cs : List Context) (c : Context) (drawn : ℕ) → c.doing ≡ Taking → c.ticket.0 ≡ drawn → AreOfTable cs drawn → AreOfTable (cs ++ c ∷ []) (drawn + 1)
+pub begun_kept : (cs : List Context) (c : Context) (drawn : ℕ) → c.doing ≡ Taking → c.ticket.0 ≡ drawn → AreOfTable cs drawn
+    → AreOfTable (cs ++ c ∷ []) (drawn + 1)
 begun_kept cs c drawn taking next kept =
     record {
       lockable = All-push NamesLockable cs c kept.lockable (subst IsOfLockable (sym taking) tt);
-      below = All-push (IsBelow (drawn + 1)) cs c (All-weaker (IsBelow drawn) (IsBelow (drawn + 1)) (λ x h. omega arith) cs kept.below) (omega arith);
+      below = All-push (IsBelow (drawn + 1)) cs c (All-weaker (IsBelow drawn) (IsBelow (drawn + 1)) (λ x h. omega arith) cs kept.below)
+          (omega arith);
     }
 
 -- a ticket that was not drawn is of no context
@@ -67,4 +72,5 @@ none_at t [] drawn all le = refl
 none_at t (c ∷ cs) drawn all le =
     let below = All-head (IsBelow drawn) c cs all in
     let ne : c.ticket.0 ≢ t.0 = omega arith in
-    cond-false (c.ticket.0 == t.0) (Some c.doing) (doing_in_contexts cs t) (ne_eqb c.ticket.0 t.0 ne) ∙ none_at t cs drawn (All-tail (IsBelow drawn) c cs all) le
+    cond-false (c.ticket.0 == t.0) (Some c.doing) (doing_in_contexts cs t) (ne_eqb c.ticket.0 t.0 ne) ∙ none_at t cs drawn
+    (All-tail (IsBelow drawn) c cs all) le

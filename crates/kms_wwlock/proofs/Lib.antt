@@ -4,3 +4,7 @@ pub mod Meanings
 pub mod Sound
 pub mod Cycles
 mod Rows
+mod Places
+mod Ties
+pub mod Held
+mod InMachine

@@ -1,5 +1,6 @@
 -- What a change of the table does to its look-ups.
-use Rattle.std.proofs.Common.{◌≡◌, ◌≢◌, ℕ, zero, suc, ◌==◌, Bool, true, false, not, List, [], ◌∷◌, ◌++◌, map, get_or, set, Option, Some, None, refl, sym, ap, ◌∙◌, ◌⊎◌, inl, inr}
+use Rattle.std.proofs.Common.{◌≡◌, ◌≢◌, ℕ, zero, suc, ◌==◌, Bool, true, false, not, List, [], ◌∷◌, ◌++◌, map, get_or, set, Option, Some}
+use Rattle.std.proofs.Common.{None, refl, sym, ap, ◌∙◌, ◌⊎◌, inl, inr}
 use Rattle.std.proofs.Math.ListN.{get_or-map}
 use Rattle.std.proofs.lemmas.Bool.{ne_eqb, eq-eqb, eqb-true, cond-true, cond-false}
 use Rattle.std.specs.Prelude.{filter, if◌then◌else◌}
@@ -75,7 +76,8 @@ doing_in-begun c y d (x ∷ cs) found = step (x.ticket.0 == y.0) found (doing_in
     step false found rest = rest found
 
 -- the context that begins, where none had its ticket
-pub doing_in-beginner : (c : Context) (cs : List Context) → doing_in_contexts cs c.ticket ≡ None → doing_in_contexts (cs ++ c ∷ []) c.ticket ≡ Some c.doing
+pub doing_in-beginner : (c : Context) (cs : List Context) → doing_in_contexts cs c.ticket ≡ None → doing_in_contexts (cs ++ c ∷ []) c.ticket
+    ≡ Some c.doing
 doing_in-beginner c [] none = cond-true (c.ticket.0 == c.ticket.0) (Some c.doing) None (eq-eqb c.ticket.0 c.ticket.0 refl)
 doing_in-beginner c (x ∷ cs) none = step (x.ticket.0 == c.ticket.0) none (doing_in-beginner c cs)
   where
@@ -85,9 +87,11 @@ doing_in-beginner c (x ∷ cs) none = step (x.ticket.0 == c.ticket.0) none (doin
     step true none rest = cc
     step false none rest = rest none
 
-pub doing_in-beside : (c : Context) (y : Ticket) (cs : List Context) → y.0 ≢ c.ticket.0 → doing_in_contexts (cs ++ c ∷ []) y ≡ doing_in_contexts cs y
+pub doing_in-beside : (c : Context) (y : Ticket) (cs : List Context) → y.0 ≢ c.ticket.0 → doing_in_contexts (cs ++ c ∷ []) y
+    ≡ doing_in_contexts cs y
 doing_in-beside c y [] ne = cond-false (c.ticket.0 == y.0) (Some c.doing) None (ne_eqb c.ticket.0 y.0 (λ e. ne (sym e)))
-doing_in-beside c y (x ∷ cs) ne = ap (λ (o : Option ContextDoing). if x.ticket.0 == y.0 then Some x.doing else o) (doing_in-beside c y cs ne)
+doing_in-beside c y (x ∷ cs) ne = ap (λ (o : Option ContextDoing). if x.ticket.0 == y.0 then Some x.doing else o)
+    (doing_in-beside c y cs ne)
 
 -- a context goes on as it did where another one is over
 pub doing_in-over : (t y : Ticket) (cs : List Context) → y.0 ≢ t.0
@@ -97,7 +101,8 @@ doing_in-over t y (c ∷ cs) ne = step (c.ticket.0 == t.0) refl (doing_in-over t
   where
     step : (b : Bool) → (c.ticket.0 == t.0) ≡ b
         → doing_in_contexts (filter (λ c. not (c.ticket.0 == t.0)) cs) y ≡ doing_in_contexts cs y
-        → doing_in_contexts (if not b then c ∷ filter (λ c. not (c.ticket.0 == t.0)) cs else filter (λ c. not (c.ticket.0 == t.0)) cs) y ≡ doing_in_contexts (c ∷ cs) y
+        → doing_in_contexts (if not b then c ∷ filter (λ c. not (c.ticket.0 == t.0)) cs else filter (λ c. not (c.ticket.0 == t.0)) cs) y
+        ≡ doing_in_contexts (c ∷ cs) y
     step true is rest =
         rest ∙ sym (cond-false (c.ticket.0 == y.0) (Some c.doing) _ (ne_eqb c.ticket.0 y.0 (λ e. ne (sym e ∙ eqb-true c.ticket.0 t.0 is))))
     step false is rest = ap (λ (o : Option ContextDoing). if c.ticket.0 == y.0 then Some c.doing else o) rest
@@ -108,6 +113,7 @@ doing_in-gone t [] = refl
 doing_in-gone t (c ∷ cs) = step (c.ticket.0 == t.0) refl (doing_in-gone t cs)
   where
     step : (b : Bool) → (c.ticket.0 == t.0) ≡ b → doing_in_contexts (filter (λ c. not (c.ticket.0 == t.0)) cs) t ≡ None
-        → doing_in_contexts (if not b then c ∷ filter (λ c. not (c.ticket.0 == t.0)) cs else filter (λ c. not (c.ticket.0 == t.0)) cs) t ≡ None
+        → doing_in_contexts (if not b then c ∷ filter (λ c. not (c.ticket.0 == t.0)) cs else filter (λ c. not (c.ticket.0 == t.0)) cs) t
+        ≡ None
     step true is rest = rest
     step false is rest = cond-false (c.ticket.0 == t.0) (Some c.doing) _ is ∙ rest

@@ -13,7 +13,8 @@ use Rattle.kms_wwlock.specs.declared.contexts.ContextDoing.{ContextDoing}
 use Rattle.kms_wwlock.specs.declared.contexts.ContextDoing.TheVariants.{Taking, BackedOff}
 use Rattle.kms_wwlock.specs.Objects.{IsLockable, lock_place, locks_before}
 use Rattle.kms_wwlock.specs.Table.{Table, doing_of, AreOfTable}
-use Rattle.kms_wwlock.specs.Calls.{with_doing, holder_without, set_doing, locked_by, unlocked, IsTakenBy, IsDoing, AreUnlocked, after_begin, next_ticket, after_drop_all}
+use Rattle.kms_wwlock.specs.Calls.{with_doing, holder_without, set_doing, locked_by, unlocked, IsTakenBy, IsDoing, AreUnlocked, after_begin}
+use Rattle.kms_wwlock.specs.Calls.{next_ticket, after_drop_all}
 use Rattle.kms_wwlock.proofs.Lookups.{doing_in-others, doing_in-set, doing_in-beginner, doing_in-beside, doing_in-over, doing_in-gone}
 use Rattle.kms_wwlock.proofs.Kept.{none_at}
 
@@ -37,10 +38,13 @@ placed id is =
           let at : lock_place id ≡ 0 + (id.0 - 100) = of_kind id Crtc (cond-true _ _ _ (lt-ltb id.0 200 lt)) in
           (omega arith, omega arith, omega arith);
       plane = λ ge lt.
-          let at : lock_place id ≡ 4 + (id.0 - 200) = of_kind id Plane (cond-false _ _ _ (le-ltb id.0 200 ge) ∙ cond-true _ _ _ (lt-ltb id.0 300 lt)) in
+          let at : lock_place id ≡ 4 + (id.0 - 200) = of_kind id Plane
+          (cond-false _ _ _ (le-ltb id.0 200 ge) ∙ cond-true _ _ _ (lt-ltb id.0 300 lt)) in
           (omega arith, omega arith);
       connector = λ ge.
-          let at : lock_place id ≡ 20 + (id.0 - 300) = of_kind id Conn (cond-false _ _ _ (le-ltb id.0 200 (omega arith)) ∙ (cond-false _ _ _ (le-ltb id.0 300 ge) ∙ cond-true _ _ _ (lt-ltb id.0 400 (omega arith)))) in
+          let at : lock_place id ≡ 20 + (id.0 - 300) = of_kind id Conn
+          (cond-false _ _ _ (le-ltb id.0 200 (omega arith)) ∙
+          (cond-false _ _ _ (le-ltb id.0 300 ge) ∙ cond-true _ _ _ (lt-ltb id.0 400 (omega arith)))) in
           (omega arith, omega arith);
     }
 
@@ -55,12 +59,14 @@ place_of_apart a b la lb ne = λ same.
 
 -- holders
 
-pub taken_by : (table : Table) (t : Ticket) (id : ObjId) → length table.holders ≡ 28 → IsLockable id → IsTakenBy table (locked_by table t id) t id
+pub taken_by : (table : Table) (t : Ticket) (id : ObjId) → length table.holders ≡ 28 → IsLockable id
+    → IsTakenBy table (locked_by table t id) t id
 taken_by table t id long is =
     let within = place_of_within id is in
     record {
       locked_by = get_or-set_same table.holders (lock_place id) (Some t) None (omega arith);
-      others = λ other is_other ne. get_or-set_other table.holders (lock_place id) (lock_place other) (Some t) None (place_of_apart other id is_other is ne);
+      others = λ other is_other ne. get_or-set_other table.holders (lock_place id) (lock_place other) (Some t) None
+          (place_of_apart other id is_other is ne);
     }
 
 pub freed_all : (table : Table) (t : Ticket) → AreUnlocked table (unlocked table t) t
@@ -68,7 +74,8 @@ freed_all table t id = get_or-map (holder_without t) table.holders (lock_place i
 
 -- contexts
 
-pub set_is_doing : (table : Table) (t : Ticket) (d e : ContextDoing) → doing_of table t ≡ Some e → IsDoing table (set_doing table t d) t (Some d)
+pub set_is_doing : (table : Table) (t : Ticket) (d e : ContextDoing) → doing_of table t ≡ Some e
+    → IsDoing table (set_doing table t d) t (Some d)
 set_is_doing table t d e found =
     record {
       now = doing_in-set t d e table.contexts found;
@@ -107,7 +114,8 @@ set_at table t d e holders contexts now found =
 -- together
 
 -- the context of a ticket that backed off for an object takes it, and goes on
-pub relocked_at : (table : Table) (t : Ticket) (id : ObjId) (place : ℕ) (contexts : List Context) → length table.holders ≡ 28 → IsLockable id
+pub relocked_at : (table : Table) (t : Ticket) (id : ObjId) (place : ℕ) (contexts : List Context) → length table.holders ≡ 28
+    → IsLockable id
     → place ≡ lock_place id → contexts ≡ map (with_doing t Taking) table.contexts → doing_of table t ≡ Some (BackedOff id)
     → IsTakenBy table (record table { holders = set table.holders place (Some t); contexts = contexts }) t id
     × IsDoing table (record table { holders = set table.holders place (Some t); contexts = contexts }) t (Some Taking)
@@ -116,4 +124,8 @@ relocked_at table t id place contexts long is at now off =
     let holds = taken_by table t id long is in
     let there : IsTakenBy table (new (lock_place id) (map (with_doing t Taking) table.contexts)) t id =
     record { locked_by = holds.locked_by; others = holds.others } in
-    rw (at, now) (there, set_at table t Taking (BackedOff id) (set table.holders (lock_place id) (Some t)) (map (with_doing t Taking) table.contexts) refl off)
+    rw (at, now) (
+      there,
+      set_at table t Taking (BackedOff id) (set table.holders (lock_place id) (Some t))
+          (map (with_doing t Taking) table.contexts) refl off,
+    )

@@ -37,7 +37,8 @@ answers = (refl, refl, refl, refl)
 abbrev held : Table
 held = after_all empty_table (Begin 1 ∷ Begin 2 ∷ Lock first (object Plane 0) ∷ Lock second (object Crtc 0) ∷ [])
 
-holders : (holder_of held (object Crtc 0) ≡ Some second) × (holder_of held (object Plane 0) ≡ Some first) × (holder_of held (object Conn 0) ≡ None)
+holders : (holder_of held (object Crtc 0) ≡ Some second) × (holder_of held (object Plane 0) ≡ Some first)
+    × (holder_of held (object Conn 0) ≡ None)
 unfolding lock_place
 holders = (refl, refl, refl)
 

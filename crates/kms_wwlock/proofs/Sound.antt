@@ -1,5 +1,6 @@
 -- Who holds an object has begun, is not over, and has not backed off.
-use Rattle.std.proofs.Common.{◌≡◌, ◌≢◌, ℕ, zero, suc, List, [], ◌∷◌, map, get_or, replicate, Option, Some, None, refl, sym, ap, subst, ⊎_elim}
+use Rattle.std.proofs.Common.{◌≡◌, ◌≢◌, ℕ, zero, suc, List, [], ◌∷◌, map, get_or, replicate, Option, Some, None, refl, sym, ap, subst}
+use Rattle.std.proofs.Common.{⊎_elim}
 use Rattle.std.proofs.lemmas.Bool.{cases_eq}
 use Rattle.kms_model.specs.declared.objects.ObjId.{ObjId}
 use Rattle.kms_model.specs.declared.objects.Ticket.{Ticket}
@@ -12,8 +13,10 @@ use Rattle.kms_wwlock.specs.declared.table.Relock.{Relock as Again}
 use Rattle.kms_wwlock.specs.declared.table.Relock.TheVariants.{Got as GotAgain, Held}
 use Rattle.kms_wwlock.specs.Objects.{lock_place}
 use Rattle.kms_wwlock.specs.Table.{Table, holder_of, doing_of, doing_in_contexts, must_back_off_for, backed_off_for}
-use Rattle.kms_wwlock.specs.Calls.{with_doing, locked_by, after_begin, lock_answer, after_lock, backed_off, relock_answer, relocked, after_drop_all}
-use Rattle.kms_wwlock.specs.Waits.{Call, Begin, Lock, Backoff, Relock, DropAll, IsCallAllowed, after_call, AreAllowed, after_all, empty_table}
+use Rattle.kms_wwlock.specs.Calls.{with_doing, locked_by, after_begin, lock_answer, after_lock, backed_off, relock_answer, relocked}
+use Rattle.kms_wwlock.specs.Calls.{after_drop_all}
+use Rattle.kms_wwlock.specs.Waits.{Call, Begin, Lock, Backoff, Relock, DropAll, IsCallAllowed, after_call, AreAllowed, after_all}
+use Rattle.kms_wwlock.specs.Waits.{empty_table}
 use Rattle.kms_wwlock.proofs.Lookups.{same_ticket, held-freed, held-taken, doing_in-others, doing_in-set, doing_in-begun, doing_in-over}
 
 -- it may hold objects
@@ -40,11 +43,13 @@ set_sound cs t y d e found may others =
 begin_sound : (table : Table) (client : ℕ) → IsSound table → IsSound (after_begin table client)
 begin_sound table client s = record { held = λ place y e. kept y (doing_in_contexts table.contexts y) refl (s.held place y e) }
   where
-    kept : (y : Ticket) (o : Option ContextDoing) → doing_in_contexts table.contexts y ≡ o → MayHold o → MayHold (doing_in_contexts (after_begin table client).contexts y)
+    kept : (y : Ticket) (o : Option ContextDoing) → doing_in_contexts table.contexts y ≡ o → MayHold o
+        → MayHold (doing_in_contexts (after_begin table client).contexts y)
     kept y None is may = absurd may
     kept y (Some d) is may = subst MayHold (sym (doing_in-begun _ y d table.contexts is)) may
 
-taken_sound : (table : Table) (t : Ticket) (id : ObjId) → doing_in_contexts table.contexts t ≡ Some Taking → IsSound table → IsSound (locked_by table t id)
+taken_sound : (table : Table) (t : Ticket) (id : ObjId) → doing_in_contexts table.contexts t ≡ Some Taking → IsSound table
+    → IsSound (locked_by table t id)
 taken_sound table t id taking s =
     record {
       held = λ place y e.
@@ -71,7 +76,8 @@ backoff_sound table t (Some id) s =
           subst MayHold (sym (doing_in-others t y (BackedOff id) table.contexts before.1)) (s.held place y before.0);
     }
 
-relock_sound : (table : Table) (t : Ticket) (o : Option ContextDoing) (answer : Again) → doing_in_contexts table.contexts t ≡ o → IsSound table
+relock_sound : (table : Table) (t : Ticket) (o : Option ContextDoing) (answer : Again) → doing_in_contexts table.contexts t ≡ o
+    → IsSound table
     → IsSound (relocked table t (backed_off_for o) answer)
 relock_sound table t (Some (BackedOff id)) GotAgain is s =
     record {

@@ -2,7 +2,8 @@
 -- From: Documentation/locking/ww-mutex-design.rst, "Wound/Wait Deadlock-Proof Mutex Design"; drm_modeset_lock.c,
 -- `drm_modeset_lock` (-EALREADY is `Own`, -EDEADLK is `Older`), `drm_modeset_backoff` (which here is `backoff` and
 -- then `relock`) and `drm_modeset_drop_locks`. Own choice of this device: of the two algorithms it is Wait-Die.
-use Rattle.std.specs.Prelude.{◌≡◌, ◌≢◌, ℕ, ◌+◌, ◌<◌, ◌==◌, if◌then◌else◌, nat_lt, not, [], ◌∷◌, ◌++◌, All, map, filter, slice_set, Option, Some, None, IsSome, option_and_then}
+use Rattle.std.specs.Prelude.{◌≡◌, ◌≢◌, ℕ, ◌+◌, ◌<◌, ◌==◌, if◌then◌else◌, nat_lt, not, [], ◌∷◌, ◌++◌, All, map, filter, slice_set, Option}
+use Rattle.std.specs.Prelude.{Some, None, IsSome, option_and_then}
 use Rattle.kms_model.specs.declared.objects.ObjId.{ObjId}
 use Rattle.kms_model.specs.declared.objects.Ticket.{Ticket}
 use Rattle.kms_wwlock.specs.declared.contexts.Context.{Context}

@@ -8,7 +8,8 @@ use Rattle.kms_wwlock.specs.declared.table.Lock.TheVariants.{Younger}
 use Rattle.kms_wwlock.specs.declared.table.Relock.TheVariants.{Held}
 use Rattle.kms_wwlock.specs.declared.contexts.ContextDoing.TheVariants.{BackedOff}
 use Rattle.kms_wwlock.specs.Table.{Table, holder_of, doing_of}
-use Rattle.kms_wwlock.specs.Calls.{MayBegin, after_begin, MayLock, lock_answer, after_lock, MayBackOff, after_backoff, MayRelock, relock_answer, after_relock, MayDropAll, after_drop_all}
+use Rattle.kms_wwlock.specs.Calls.{MayBegin, after_begin, MayLock, lock_answer, after_lock, MayBackOff, after_backoff, MayRelock}
+use Rattle.kms_wwlock.specs.Calls.{relock_answer, after_relock, MayDropAll, after_drop_all}
 
 -- a call that changes the table; one of `begin` that found no memory changes nothing and is none
 pub data Call : Type 0 where

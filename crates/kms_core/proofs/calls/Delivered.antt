@@ -1,5 +1,6 @@
 -- A client that reads its oldest event, or is told that none will come.
-use Rattle.std.proofs.Common.{◌≡◌, ℕ, zero, suc, ◌≤◌, ◌<◌, ◌-◌, true, false, List, [], ◌∷◌, ◌++◌, length, get_or, Some, None, inl, inr, refl, sym, ap, ◌∙◌, subst, arith}
+use Rattle.std.proofs.Common.{◌≡◌, ℕ, zero, suc, ◌≤◌, ◌<◌, ◌-◌, true, false, List, [], ◌∷◌, ◌++◌, length, get_or, Some, None, inl, inr}
+use Rattle.std.proofs.Common.{refl, sym, ap, ◌∙◌, subst, arith}
 use Rattle.std.specs.Prelude.{◌||◌, ◌==◌, not, nat_lt, slice_set}
 use Rattle.std.proofs.lemmas.Bool.{and_from, lt-ltb}
 use Rattle.std.proofs.lemmas.Bool.Decides.{eqb_tells}
@@ -15,8 +16,8 @@ use Rattle.kms_model.specs.Machine.Effects.{next, reads, goes_on as client_goes_
 use Rattle.kms_model.specs.Machine.Histories.{legal}
 use Rattle.kms_model.specs.Machine.State.{Machine, place_at, reserved_at, unread_at}
 use Rattle.kms_model.specs.Machine.Steps.{may, is_wait}
-use Rattle.kms_clients.specs.InStep.{AreClientsOf}
-use Rattle.kms_clients.specs.Standing.{Standing, place_of}
+use Rattle.kms_wwlock.specs.InStep.{AreClientsOf}
+use Rattle.kms_wwlock.specs.Standing.{Standing, place_of}
 use Rattle.kms_signal.proofs.StepLemmas.{queues_follow_others_read, queues_follow_read}
 use Rattle.kms_signal.specs.InStep.{IsQueueOf}
 use Rattle.kms_signal.specs.Queues.{Queue, after_read, empty_queue}
@@ -41,61 +42,86 @@ has_queue r v st client stands same now =
     omega (arith, low, high, size)
 
 -- what the client's queue tells is what the machine does while the history goes on
-pub reply_told : (r v : Run) (st : Stores) (client : ℕ) → Stands r st → r ≡ v → MayRead v client → st.stalled ≡ false → read_reply (queue_of st.queues client).unread (queue_of st.queues client).reserved ≡ read_reply_at v client
+pub reply_told : (r v : Run) (st : Stores) (client : ℕ) → Stands r st → r ≡ v → MayRead v client → st.stalled ≡ false
+    → read_reply (queue_of st.queues client).unread (queue_of st.queues client).reserved ≡ read_reply_at v client
 reply_told r v st client stands same now going =
     let there = idle_reader r v st client stands same now in
     let queue = stands.stores.queues.queue client there.low there.high in
     ap (λ events. read_reply events (queue_of st.queues client).reserved) queue.unread
     ∙ ap (λ n. read_reply (unread_at (machine r).events client) n) queue.reserved
-    ∙ ap (λ b. unless_ended b (read_reply (unread_at (machine r).events client) (reserved_at (machine r).events client))) (sym (stands.stores.ended ∙ going))
+    ∙ ap (λ b. unless_ended b (read_reply (unread_at (machine r).events client) (reserved_at (machine r).events client)))
+    (sym (stands.stores.ended ∙ going))
     ∙ ap (λ (w : Run). read_reply_at w client) same
 
 -- nothing is answered after its end
 pub none_told : (r v : Run) (st : Stores) (client : ℕ) → Stands r st → r ≡ v → st.stalled ≡ true → None ≡ read_reply_at v client
 none_told r v st client stands same ended =
-    ap (λ b. unless_ended b (read_reply (unread_at (machine r).events client) (reserved_at (machine r).events client))) (sym (stands.stores.ended ∙ ended))
+    ap (λ b. unless_ended b (read_reply (unread_at (machine r).events client) (reserved_at (machine r).events client)))
+    (sym (stands.stores.ended ∙ ended))
     ∙ ap (λ (w : Run). read_reply_at w client) same
 
 -- the queue that is found at the client's place
-pub found_queue : (r v : Run) (st : Stores) (client : ℕ) (q d : Queue) → Stands r st → r ≡ v → MayRead v client → q ≡ get_or st.queues (client - 1) d → q ≡ queue_of st.queues client
-found_queue r v st client q d stands same now is = is ∙ get_or_default st.queues (client - 1) d empty_queue (has_queue r v st client stands same now)
+pub found_queue : (r v : Run) (st : Stores) (client : ℕ) (q d : Queue) → Stands r st → r ≡ v → MayRead v client → q
+    ≡ get_or st.queues (client - 1) d → q ≡ queue_of st.queues client
+found_queue r v st client q d stands same now is = is ∙ get_or_default st.queues (client - 1) d empty_queue
+    (has_queue r v st client stands same now)
 
-pub told_reply : (r v : Run) (st : Stores) (client : ℕ) (q d : Queue) → Stands r st → r ≡ v → MayRead v client → q ≡ get_or st.queues (client - 1) d → st.stalled ≡ false → read_reply q.unread q.reserved ≡ read_reply_at v client
-told_reply r v st client q d stands same now is going = ap (λ (x : Queue). read_reply x.unread x.reserved) (found_queue r v st client q d stands same now is) ∙ reply_told r v st client stands same now going
+pub told_reply : (r v : Run) (st : Stores) (client : ℕ) (q d : Queue) → Stands r st → r ≡ v → MayRead v client → q
+    ≡ get_or st.queues (client - 1) d → st.stalled ≡ false → read_reply q.unread q.reserved ≡ read_reply_at v client
+told_reply r v st client q d stands same now is going = ap (λ (x : Queue). read_reply x.unread x.reserved)
+    (found_queue r v st client q d stands same now is) ∙ reply_told r v st client stands same now going
 
 -- a wait that is answered may be read
-may_read : (unread : List Event) (reserved : ℕ) (answer : Reply) → read_reply unread reserved ≡ Some answer → (nat_lt 0 (length unread) || (reserved == 0)) ≡ true
+may_read : (unread : List Event) (reserved : ℕ) (answer : Reply) → read_reply unread reserved ≡ Some answer
+    → (nat_lt 0 (length unread) || (reserved == 0)) ≡ true
 may_read [] zero answer is = refl
 may_read [] (suc n) answer is = absurd cc
 may_read (event ∷ events) reserved answer is = rw (lt-ltb 0 (length (event ∷ events)) (omega arith)) refl
 
 -- the client's queue has an event less, and the others are as they were
-queues_read : (s : Script) (m : Machine) (client : ℕ) (queues : List Queue) → 1 ≤ client → client ≤ length s.clients → AreQueues (length s.clients) m.events queues
-    → AreQueues (length s.clients) (next s m (step.Read client)).events (slice_set queues (client - 1) (after_read (queue_of queues client)))
+queues_read : (s : Script) (m : Machine) (client : ℕ) (queues : List Queue) → 1 ≤ client → client ≤ length s.clients
+    → AreQueues (length s.clients) m.events queues
+    → AreQueues (length s.clients) (next s m (step.Read client)).events
+    (slice_set queues (client - 1) (after_read (queue_of queues client)))
 queues_read s m client queues low high stand = record {
   size = length-set queues (client - 1) (after_read (queue_of queues client)) ∙ stand.size;
   queue = λ other from to.
       elim (eqb_tells client other) [
         | inl same ↦ (let size = stand.size in
-            subst (λ n. IsQueueOf (queue_of (slice_set queues (client - 1) (after_read (queue_of queues client))) n) (next s m (step.Read client)).events n) same.1
-            (subst (λ q. IsQueueOf q (next s m (step.Read client)).events client) (sym (get_or-set_same queues (client - 1) (after_read (queue_of queues client)) empty_queue (omega (arith, size, low, high))))
+            subst (λ n. IsQueueOf (queue_of (slice_set queues (client - 1) (after_read (queue_of queues client))) n)
+            (next s m (step.Read client)).events n) same.1
+            (subst (λ q. IsQueueOf q (next s m (step.Read client)).events client)
+            (sym (get_or-set_same queues (client - 1) (after_read (queue_of queues client)) empty_queue
+            (omega (arith, size, low, high))))
             (queues_follow_read s m client (queue_of queues client) (stand.queue client low high))))
         | inr different ↦
             subst (λ q. IsQueueOf q (next s m (step.Read client)).events other)
-            (sym (get_or-set_other queues (client - 1) (other - 1) (after_read (queue_of queues client)) empty_queue (λ e. different.1 (omega (arith, e, low, from)))))
+            (sym (get_or-set_other queues (client - 1) (other - 1) (after_read (queue_of queues client)) empty_queue
+            (λ e. different.1 (omega (arith, e, low, from)))))
             (queues_follow_others_read s m client other (queue_of queues other) different.0 (stand.queue other from to))
       ];
 }
 
 -- all stores stand after a read
-read_stands : (s : Script) (m : Machine) (client : ℕ) (unread : List Event) (answer : Reply) (st : Stores) (clients : Standing) (journal : Logged (ℕ × ℕ)) (replies : Logged Answered) (queues : List Queue) → read_reply unread (reserved_at m.events client) ≡ Some answer
+read_stands : (s : Script) (m : Machine) (client : ℕ) (unread : List Event) (answer : Reply) (st : Stores) (clients : Standing)
+    (journal : Logged (ℕ × ℕ)) (replies : Logged Answered) (queues : List Queue) → read_reply unread (reserved_at m.events client)
+    ≡ Some answer
     → AreClientsOf (client_goes_on m client).contexts clients
-    → AreRecords (record m.records { replies = answered client (place_at m client).command (length m.records.journal) answer ∷ m.records.replies }) journal.items replies.items st.latches.items
+    → AreRecords (record m.records {
+      replies = answered client (place_at m client).command (length m.records.journal) answer
+          ∷ m.records.replies;
+    }) journal.items replies.items st.latches.items
     → AreQueues (length s.clients) (reads m client unread).events queues → StandsAt s m st
     → StandsAt s (reads m client unread) (record st { clients = clients; journal = journal; replies = replies; queues = queues })
 read_stands s m client [] answer st clients journal replies queues is clients_stand recorded queues_stand stands =
-    stands_moved s m client (record m.records { replies = answered client (place_at m client).command (length m.records.journal) reply.NoEvent ∷ m.records.replies }) m.device.world m.device.signalled m.events st clients journal replies st.made st.fences queues refl
-    clients_stand (subst (λ a. AreRecords (record m.records { replies = answered client (place_at m client).command (length m.records.journal) a ∷ m.records.replies }) journal.items replies.items st.latches.items) (no_event (reserved_at m.events client) is) recorded)
+    stands_moved s m client (record m.records {
+      replies = answered client (place_at m client).command (length m.records.journal)
+          reply.NoEvent ∷ m.records.replies;
+    }) m.device.world m.device.signalled m.events st clients journal replies st.made st.fences queues
+    refl
+    clients_stand (subst (λ a. AreRecords (record m.records
+    { replies = answered client (place_at m client).command (length m.records.journal) a ∷ m.records.replies }) journal.items
+    replies.items st.latches.items) (no_event (reserved_at m.events client) is) recorded)
     stands.world stands.fences stands.fenced (λ id made. made) queues_stand stands
   where
     no_event : (reserved : ℕ) → read_reply [] reserved ≡ Some answer → answer ≡ reply.NoEvent
@@ -103,22 +129,33 @@ read_stands s m client [] answer st clients journal replies queues is clients_st
     no_event (suc n) e = absurd cc
 read_stands s m client (event ∷ events) answer st clients journal replies queues is clients_stand recorded queues_stand stands =
     let same : answer ≡ reply.Event event = cc in
-    stands_moved s m client (record m.records { replies = answered client (place_at m client).command (length m.records.journal) (reply.Event event) ∷ m.records.replies }) m.device.world m.device.signalled
-    (record m.events { unread = (client, events) ∷ m.events.unread; events_read = (client, event) ∷ m.events.events_read }) st clients journal replies st.made st.fences queues refl
-    clients_stand (subst (λ a. AreRecords (record m.records { replies = answered client (place_at m client).command (length m.records.journal) a ∷ m.records.replies }) journal.items replies.items st.latches.items) same recorded)
+    stands_moved s m client (record m.records {
+      replies = answered client (place_at m client).command (length m.records.journal)
+          (reply.Event event) ∷ m.records.replies;
+    }) m.device.world m.device.signalled
+    (record m.events { unread = (client, events) ∷ m.events.unread; events_read = (client, event) ∷ m.events.events_read }) st clients
+    journal replies st.made st.fences queues refl
+    clients_stand (subst (λ a. AreRecords (record m.records
+    { replies = answered client (place_at m client).command (length m.records.journal) a ∷ m.records.replies }) journal.items
+    replies.items st.latches.items) same recorded)
     stands.world stands.fences stands.fenced (λ id made. made) queues_stand stands
 
 -- what the call leaves of the stores
-pub record HasRead (r : Run) (st : Stores) (client : ℕ) (answer : Reply) (clients : Standing) (journal : Logged (ℕ × ℕ)) (replies : Logged Answered) (queues : List Queue) : Type 0 where
+pub record HasRead (r : Run) (st : Stores) (client : ℕ) (answer : Reply) (clients : Standing) (journal : Logged (ℕ × ℕ))
+    (replies : Logged Answered) (queues : List Queue) : Type 0 where
   pub told : read_reply (queue_of st.queues client).unread (queue_of st.queues client).reserved ≡ Some answer
   pub clients_stand : AreClientsOf (client_goes_on (machine r) client).contexts clients
   pub journal_kept : journal.items ≡ st.journal.items
-  pub replies_more : replies.items ≡ st.replies.items ++ answered client (place_of st.clients client).command (length journal.items) answer ∷ []
+  pub replies_more : replies.items ≡ st.replies.items ++ answered client (place_of st.clients client).command (length journal.items) answer
+      ∷ []
   pub queues_after : queues ≡ slice_set st.queues (client - 1) (after_read (queue_of st.queues client))
 
-pub reads_event : (r v : Run) (st : Stores) (client : ℕ) (answer : Reply) (clients : Standing) (journal : Logged (ℕ × ℕ)) (replies : Logged Answered) (queues : List Queue) (before steps : List Step) → Stands r st → r ≡ v → MayRead v client → st.stalled ≡ false
+pub reads_event : (r v : Run) (st : Stores) (client : ℕ) (answer : Reply) (clients : Standing) (journal : Logged (ℕ × ℕ))
+    (replies : Logged Answered) (queues : List Queue) (before steps : List Step) → Stands r st → r ≡ v → MayRead v client → st.stalled
+    ≡ false
     → HasRead r st client answer clients journal replies queues → before ≡ r.steps → steps ≡ before ++ step.Read client ∷ []
-    → Stands (record { script = r.script; steps = steps }) (record st { clients = clients; journal = journal; replies = replies; queues = queues })
+    → Stands (record { script = r.script; steps = steps })
+    (record st { clients = clients; journal = journal; replies = replies; queues = queues })
 unfolding next legal may
 reads_event r v st client answer clients journal replies queues before steps stands same now going has is more =
     let m = machine r in
@@ -126,10 +163,14 @@ reads_event r v st client answer clients journal replies queues before steps sta
     let there = idle_reader r v st client stands same now in
     let queue = stands.stores.queues.queue client there.low there.high in
     let told : read_reply (unread_at m.events client) (reserved_at m.events client) ≡ Some answer =
-    sym (ap (λ events. read_reply events (queue_of st.queues client).reserved) queue.unread ∙ ap (λ n. read_reply (unread_at m.events client) n) queue.reserved) ∙ has.told in
+    sym (ap (λ events. read_reply events (queue_of st.queues client).reserved) queue.unread ∙ ap
+    (λ n. read_reply (unread_at m.events client) n) queue.reserved) ∙ has.told in
     goes_on r st (record st { clients = clients; journal = journal; replies = replies; queues = queues })
     (step.Read client) refl refl refl steps (more ∙ ap (λ (xs : List Step). xs ++ step.Read client ∷ []) is) stands
-    (and_from (not m.stalled) _ (ap not (stands.stores.ended ∙ going)) (and_from _ _ asked (may_read (unread_at m.events client) (reserved_at m.events client) answer told)))
+    (and_from (not m.stalled) _ (ap not (stands.stores.ended ∙ going))
+    (and_from _ _ asked (may_read (unread_at m.events client) (reserved_at m.events client) answer told)))
     (read_stands r.script m client (unread_at m.events client) answer st clients journal replies queues told has.clients_stand
-    (records_answered m st client (place_of st.clients client).command answer journal.items replies.items has.journal_kept has.replies_more there.number stands.stores.recorded)
-    (subst (λ qs. AreQueues (length r.script.clients) (next r.script m (step.Read client)).events qs) (sym has.queues_after) (queues_read r.script m client st.queues there.low there.high stands.stores.queues)) stands.stores)
+    (records_answered m st client (place_of st.clients client).command answer journal.items replies.items has.journal_kept has.replies_more
+    there.number stands.stores.recorded)
+    (subst (λ qs. AreQueues (length r.script.clients) (next r.script m (step.Read client)).events qs) (sym has.queues_after)
+    (queues_read r.script m client st.queues there.low there.high stands.stores.queues)) stands.stores)

@@ -19,8 +19,8 @@ use Rattle.kms_model.specs.Machine.State.{Machine, Records, command_at, place_at
 use Rattle.kms_model.specs.Machine.Steps.{is_atomic, is_making, may}
 use Rattle.kms_model.specs.Script.WellFormed.{IsFitClient, IsFitCommand, IsWellFormed}
 use Rattle.kms_model.proofs.Facts.{by_recursion-at}
-use Rattle.kms_clients.specs.InStep.{AreClientsOf}
-use Rattle.kms_clients.specs.Standing.{Standing, place_of}
+use Rattle.kms_wwlock.specs.InStep.{AreClientsOf}
+use Rattle.kms_wwlock.specs.Standing.{Standing, place_of}
 use Rattle.kms_laws.proofs.Executed.{execute_follows}
 use Rattle.kms_laws.proofs.Modes.{from_one-in, plain-from}
 use Rattle.kms_laws.proofs.SmallNumbers.{numbers_fit}
@@ -48,10 +48,12 @@ use Rattle.kms_core.proofs.stores.Recorded.{joined_if, joined_more, records_answ
 
 pub fit_command : (s : Script) (e : Entry) (c : Command) → IsWellFormed s → command_of s e ≡ Some c → IsFitCommand c
 fit_command s e c formed is = go (from_one s.clients e.client) refl is where
-  go : (o : Option (List Command)) → from_one s.clients e.client ≡ o → option_and_then (λ commands. from_one commands e.command) o ≡ Some c → IsFitCommand c
+  go : (o : Option (List Command)) → from_one s.clients e.client ≡ o → option_and_then (λ commands. from_one commands e.command) o ≡ Some c
+      → IsFitCommand c
   go None found is = absurd cc
   go (Some commands) found is =
-      by_recursion-at IsFitCommand commands c (by_recursion-at IsFitClient s.clients commands formed.clients (from_one-in s.clients e.client commands found)).fit (from_one-in commands e.command c is)
+      by_recursion-at IsFitCommand commands c (by_recursion-at IsFitClient s.clients commands formed.clients
+      (from_one-in s.clients e.client commands found)).fit (from_one-in commands e.command c is)
 
 pub no_request : (c : Command) → is_atomic c ≡ false → IsNoRequest c
 no_request (command.Buffer label width height format pattern) e = tt
@@ -66,9 +68,11 @@ no_request (command.Atomic r) e = absurd cc
 no_request command.Wait e = tt
 
 -- a command that is found under the number of the client's place is the one at which the client stands
-pub found_command : (r : Run) (st : Stores) (client number : ℕ) (test : Command → Bool) (o : Option Command) → IsIdleAt r st client test → number ≡ (place_of st.clients client).command
+pub found_command : (r : Run) (st : Stores) (client number : ℕ) (test : Command → Bool) (o : Option Command) → IsIdleAt r st client test
+    → number ≡ (place_of st.clients client).command
     → o ≡ command_of r.script (record { client = client; command = number }) → o ≡ command_at r.script (machine r) client
-found_command r st client number test o there same is = is ∙ ap (λ n. command_of r.script (record { client = client; command = n })) (same ∙ there.number)
+found_command r st client number test o there same is = is ∙ ap (λ n. command_of r.script (record { client = client; command = n }))
+    (same ∙ there.number)
 
 -- such a command passes the test, and may be executed
 pub record IsFound (r : Run) (st : Stores) (client : ℕ) (test : Command → Bool) (c : Command) : Type 0 where
@@ -76,16 +80,23 @@ pub record IsFound (r : Run) (st : Stores) (client : ℕ) (test : Command → Bo
   pub passes : test c ≡ true
   pub fit : IsFitCommand c
 
-pub is_found : (r : Run) (st : Stores) (client number : ℕ) (test : Command → Bool) (c : Command) → Stands r st → IsIdleAt r st client test → number ≡ (place_of st.clients client).command
+pub is_found : (r : Run) (st : Stores) (client number : ℕ) (test : Command → Bool) (c : Command) → Stands r st → IsIdleAt r st client test
+    → number ≡ (place_of st.clients client).command
     → Some c ≡ command_of r.script (record { client = client; command = number }) → IsFound r st client test c
 is_found r st client number test c stands there same is =
     let at = sym (found_command r st client number test (Some c) there same is) in
     let one : Some there.command ≡ Some c = sym there.at ∙ at in
     let same_command : there.command ≡ c = cc in
-    record { at = at; passes = subst (λ x. test x ≡ true) same_command there.passes; fit = fit_command r.script (record { client = client; command = number }) c stands.formed (sym is) }
+    record {
+      at = at;
+      passes = subst (λ x. test x ≡ true) same_command there.passes;
+      fit = fit_command r.script
+          (record { client = client; command = number }) c stands.formed (sym is);
+    }
 
 -- one is found
-pub never_absent : (r : Run) (st : Stores) (client number : ℕ) (test : Command → Bool) → IsIdleAt r st client test → number ≡ (place_of st.clients client).command → None ≡ command_of r.script (record { client = client; command = number }) → ⊥
+pub never_absent : (r : Run) (st : Stores) (client number : ℕ) (test : Command → Bool) → IsIdleAt r st client test → number
+    ≡ (place_of st.clients client).command → None ≡ command_of r.script (record { client = client; command = number }) → ⊥
 never_absent r st client number test there same is =
     let none : None ≡ Some there.command = found_command r st client number test None there same is ∙ there.at in
     cc
@@ -101,19 +112,26 @@ has_ids r st stands =
 
 pub idle_maker : (r v : Run) (st : Stores) (client : ℕ) → Stands r st → r ≡ v → MayMake v client → IsIdleAt r st client is_making
 unfolding legal may
-idle_maker r v st client stands same now = idle_there r st client is_making stands (not_ended (machine r).stalled _ (subst (λ (w : Run). MayMake w client) (sym same) now))
+idle_maker r v st client stands same now = idle_there r st client is_making stands
+    (not_ended (machine r).stalled _ (subst (λ (w : Run). MayMake w client) (sym same) now))
 
 -- the world of the machine is that of the things
 pub world_of : (t : Topology) (w : World) (made : Made) (present : Duplicates) → IsWorldOf t w made present → with_made w made ≡ w
 world_of t w made present stands = λ i. record w { things = sym stands.things i; next_id = sym stands.next_id i }
 
-execution_is : (t : Topology) (w : World) (made new : Made) (present : Duplicates) (client : ℕ) (c : Command) (reply : Reply) → IsWorldOf t w made present
-    → ((u : Topology) (v : World) → execute u (with_made v made) client c ≡ record { world = with_made v new; reply = reply }) → execute t w client c ≡ record { world = with_made w new; reply = reply }
-execution_is t w made new present client c reply stands executed = ap (λ v. execute t v client c) (sym (world_of t w made present stands)) ∙ executed t w
+execution_is : (t : Topology) (w : World) (made new : Made) (present : Duplicates) (client : ℕ) (c : Command) (reply : Reply)
+    → IsWorldOf t w made present
+    → ((u : Topology) (v : World) → execute u (with_made v made) client c ≡ record { world = with_made v new; reply = reply })
+    → execute t w client c ≡ record { world = with_made w new; reply = reply }
+execution_is t w made new present client c reply stands executed = ap (λ v. execute t v client c) (sym (world_of t w made present stands)) ∙
+    executed t w
 
 executed_moved : (m : Machine) (client : ℕ) (reply : Reply) (v : World) (b : Bool)
-    → client_goes_on (record (joins_if b (answers m client reply) client) { device = record (joins_if b (answers m client reply) client).device { world = v } }) client
-    ≡ moved m client (joined_if (record m.records { replies = answered client (place_at m client).command (length m.records.journal) reply ∷ m.records.replies }) b client (place_at m client).command) v m.device.signalled m.events
+    → client_goes_on (record (joins_if b (answers m client reply) client)
+    { device = record (joins_if b (answers m client reply) client).device { world = v } }) client
+    ≡ moved m client (joined_if (record m.records
+    { replies = answered client (place_at m client).command (length m.records.journal) reply ∷ m.records.replies }) b client
+    (place_at m client).command) v m.device.signalled m.events
 executed_moved m client reply v true = refl
 executed_moved m client reply v false = refl
 
@@ -122,24 +140,32 @@ same_latches records true client number = refl
 same_latches records false client number = refl
 
 -- what the call leaves of the stores
-pub record HasMade (r : Run) (st : Stores) (client : ℕ) (c : Command) (reply : Reply) (clients : Standing) (journal : Logged (ℕ × ℕ)) (replies : Logged Answered) (made : Made) (fences : FenceSet) : Type 0 where
+pub record HasMade (r : Run) (st : Stores) (client : ℕ) (c : Command) (reply : Reply) (clients : Standing) (journal : Logged (ℕ × ℕ))
+    (replies : Logged Answered) (made : Made) (fences : FenceSet) : Type 0 where
   pub found : IsFound r st client is_making c
-  pub executed_as : (t : Topology) (w : World) → execute t (with_made w st.made) client c ≡ record { world = with_made w made; reply = reply }
+  pub executed_as : (t : Topology) (w : World) → execute t (with_made w st.made) client c
+      ≡ record { world = with_made w made; reply = reply }
   pub fences_now : fences.slots ≡ with_fence_of c st.made.next_id st.fences.slots
   pub clients_stand : AreClientsOf (client_goes_on (machine r) client).contexts clients
-  pub replies_more : replies.items ≡ st.replies.items ++ answered client (place_of st.clients client).command (length st.journal.items) reply ∷ []
+  pub replies_more : replies.items ≡ st.replies.items
+      ++ answered client (place_of st.clients client).command (length st.journal.items) reply ∷ []
   pub journal_more : journal.items ≡ joined st.journal.items (is_accepted reply) client (place_of st.clients client).command
 
-pub tells_reply : (r v : Run) (st : Stores) (client : ℕ) (c : Command) (made : Made) (reply : Reply) → Stands r st → r ≡ v → command_at r.script (machine r) client ≡ Some c
-    → ((t : Topology) (w : World) → execute t (with_made w st.made) client c ≡ record { world = with_made w made; reply = reply }) → reply ≡ reply_at v client
+pub tells_reply : (r v : Run) (st : Stores) (client : ℕ) (c : Command) (made : Made) (reply : Reply) → Stands r st → r ≡ v
+    → command_at r.script (machine r) client ≡ Some c
+    → ((t : Topology) (w : World) → execute t (with_made w st.made) client c ≡ record { world = with_made w made; reply = reply }) → reply
+    ≡ reply_at v client
 tells_reply r v st client c made reply stands same at executed =
-    sym (ap (λ (e : Executed). e.reply) (execution_is r.script.topology (machine r).device.world st.made made st.present client c reply stands.stores.world executed))
+    sym (ap (λ (e : Executed). e.reply) (execution_is r.script.topology (machine r).device.world st.made made st.present client c reply
+    stands.stores.world executed))
     ∙ ap (λ o. reply_to_command r.script.topology (machine r).device.world client o) (sym at)
     ∙ ap (λ (w : Run). reply_at w client) same
 
-made_stands : (r : Run) (st : Stores) (client : ℕ) (c : Command) (reply : Reply) (clients : Standing) (journal : Logged (ℕ × ℕ)) (replies : Logged Answered) (made : Made) (fences : FenceSet) → Stands r st → IsIdleAt r st client is_making
+made_stands : (r : Run) (st : Stores) (client : ℕ) (c : Command) (reply : Reply) (clients : Standing) (journal : Logged (ℕ × ℕ))
+    (replies : Logged Answered) (made : Made) (fences : FenceSet) → Stands r st → IsIdleAt r st client is_making
     → HasMade r st client c reply clients journal replies made fences
-    → StandsAt r.script (next r.script (machine r) (step.Make client)) (record st { clients = clients; journal = journal; replies = replies; made = made; fences = fences })
+    → StandsAt r.script (next r.script (machine r) (step.Make client))
+    (record st { clients = clients; journal = journal; replies = replies; made = made; fences = fences })
 unfolding next made_thing
 made_stands r st client c reply clients journal replies made fences stands there has =
     let m = machine r in
@@ -148,31 +174,49 @@ made_stands r st client c reply clients journal replies made fences stands there
     let holds = (history_kept r.script r.steps (plain-from r.script stands.formed) stands.history).present in
     let other = not_atomic c has.found.passes in
     let is = execution_is t w st.made made st.present client c reply stands.stores.world has.executed_as in
-    let follows = execute_follows t w client c holds.lawful holds.kept ((plain-from r.script stands.formed).modes (record { client = client; command = (place_at m client).command }) c has.found.at) other in
-    let slots : fences.slots ≡ with_fence_of c w.next_id st.fences.slots = has.fences_now ∙ ap (λ n. with_fence_of c n st.fences.slots) (sym stands.stores.world.next_id) in
-    let records : Records = record m.records { replies = answered client (place_at m client).command (length m.records.journal) reply ∷ m.records.replies } in
+    let follows = execute_follows t w client c holds.lawful holds.kept
+    ((plain-from r.script stands.formed).modes (record { client = client; command = (place_at m client).command }) c has.found.at) other
+    in
+    let slots : fences.slots ≡ with_fence_of c w.next_id st.fences.slots = has.fences_now ∙ ap (λ n. with_fence_of c n st.fences.slots)
+    (sym stands.stores.world.next_id) in
+    let records : Records = record m.records {
+      replies = answered client (place_at m client).command (length m.records.journal) reply
+          ∷ m.records.replies;
+    } in
     rw has.found.at (rw is (rw (executed_moved m client reply (with_made w made) (is_accepted reply))
-    (stands_moved r.script m client (joined_if records (is_accepted reply) client (place_at m client).command) (with_made w made) m.device.signalled m.events st clients journal replies made fences st.queues
+    (stands_moved r.script m client (joined_if records (is_accepted reply) client (place_at m client).command) (with_made w made)
+    m.device.signalled m.events st clients journal replies made fences st.queues
     (same_latches records (is_accepted reply) client (place_at m client).command) has.clients_stand
-    (rw (has.journal_more, there.number) (joined_more records st.journal.items replies.items st.latches.items (is_accepted reply) client (place_at m client).command
-    (records_answered m st client (place_of st.clients client).command reply st.journal.items replies.items refl has.replies_more there.number stands.stores.recorded)))
-    (record { things = refl; next_id = refl; states = subst (λ (e : Executed). IsPresent t e.world st.present) is (present_seen t w (execute t w client c).world st.present follows.like.values follows.like.alike stands.stores.world.states) })
+    (rw (has.journal_more, there.number) (joined_more records st.journal.items replies.items st.latches.items (is_accepted reply) client
+    (place_at m client).command
+    (records_answered m st client (place_of st.clients client).command reply st.journal.items replies.items refl has.replies_more
+    there.number stands.stores.recorded)))
+    (record {
+      things = refl;
+      next_id = refl;
+      states = subst (λ (e : Executed). IsPresent t e.world st.present) is
+          (present_seen t w (execute t w client c).world st.present follows.like.values follows.like.alike stands.stores.world.states);
+    })
     (made_stand w c m.device.signalled st.fences fences slots stands.stores.fenced stands.stores.fences)
-    (subst (λ (e : Executed). AreMadeFences e.world m.device.signalled fences) is (executed_fenced t w client c m.device.signalled st.fences fences other slots stands.stores.fenced))
+    (subst (λ (e : Executed). AreMadeFences e.world m.device.signalled fences) is
+    (executed_fenced t w client c m.device.signalled st.fences fences other slots stands.stores.fenced))
     (executed_more w.next_id c st.fences fences slots) stands.stores.queues stands.stores)))
 
-pub makes : (r v : Run) (st : Stores) (client : ℕ) (c : Command) (reply : Reply) (clients : Standing) (journal : Logged (ℕ × ℕ)) (replies : Logged Answered) (made : Made) (fences : FenceSet) (before steps : List Step) → Stands r st → r ≡ v → MayMake v client
+pub makes : (r v : Run) (st : Stores) (client : ℕ) (c : Command) (reply : Reply) (clients : Standing) (journal : Logged (ℕ × ℕ))
+    (replies : Logged Answered) (made : Made) (fences : FenceSet) (before steps : List Step) → Stands r st → r ≡ v → MayMake v client
     → HasMade r st client c reply clients journal replies made fences → made.fbs ≡ fbs_after st.made client c → before ≡ r.steps
     → steps ≡ before ++ step.Make client ∷ []
     → (roomy freed : Reserved (ℕ × ℕ)) (left : Made) → roomy.items ≡ st.freed.items → roomy.places ≡ st.freed.places
     → Accounts made left st.present st.registers st.tracker r.script.topology.crtcs c reply roomy freed
     → Stands (record { script = r.script; steps = steps })
     (record st { clients = clients; journal = journal; replies = replies; made = left; fences = fences; freed = freed })
-makes r v st client c reply clients journal replies made fences before steps stands same now has counted is more roomy freed left same_items same_places accounts =
+makes r v st client c reply clients journal replies made fences before steps stands same now has counted is more roomy freed left same_items
+    same_places accounts =
     let new : Stores = record st { clients = clients; journal = journal; replies = replies; made = made; fences = fences } in
     let n = next r.script (machine r) (step.Make client) in
     let may = subst (λ (w : Run). MayMake w client) (sym same) now in
-    let told = ap (λ (e : Executed). e.reply) (execution_is r.script.topology (machine r).device.world st.made made st.present client c reply stands.stores.world has.executed_as) in
+    let told = ap (λ (e : Executed). e.reply) (execution_is r.script.topology (machine r).device.world st.made made st.present client c
+    reply stands.stores.world has.executed_as) in
     let after = made_stands r st client c reply clients journal replies made fences stands (idle_maker r v st client stands same now) has in
     let with_room : Stands r (record st { freed = roomy }) = record {
       formed = stands.formed;
@@ -191,13 +235,17 @@ makes r v st client c reply clients journal replies made fences before steps sta
     (rw kept.same kept.stored)
 
 -- there is a place for a framebuffer that was closed
-pub place_for : (r v : Run) (st : Stores) (client : ℕ) (c : Command) (reply : Reply) (made : Made) → Stands r st → r ≡ v → MayMake v client → command_at r.script (machine r) client ≡ Some c
-    → ((t : Topology) (w : World) → execute t (with_made w st.made) client c ≡ record { world = with_made w made; reply = reply }) → HasPlaceFor made c reply st.freed.places
+pub place_for : (r v : Run) (st : Stores) (client : ℕ) (c : Command) (reply : Reply) (made : Made) → Stands r st → r ≡ v → MayMake v client
+    → command_at r.script (machine r) client ≡ Some c
+    → ((t : Topology) (w : World) → execute t (with_made w st.made) client c ≡ record { world = with_made w made; reply = reply })
+    → HasPlaceFor made c reply st.freed.places
 place_for r v st client c reply made stands same now at executed_as =
     let may = subst (λ (w : Run). MayMake w client) (sym same) now in
-    let executed_is = execution_is r.script.topology (machine r).device.world st.made made st.present client c reply stands.stores.world executed_as in
+    let executed_is = execution_is r.script.topology (machine r).device.world st.made made st.present client c reply stands.stores.world
+    executed_as in
     closed_place r st client c reply stands may at (ap (λ (e : Executed). e.reply) executed_is) made
-    (ap (λ (w : World). w.things) (world_after r st client c reply stands may at (ap (λ (e : Executed). e.reply) executed_is)) ∙ ap (λ (e : Executed). e.world.things) executed_is)
+    (ap (λ (w : World). w.things) (world_after r st client c reply stands may at (ap (λ (e : Executed). e.reply) executed_is)) ∙ ap
+    (λ (e : Executed). e.world.things) executed_is)
 
 -- and the framebuffer that was added or closed is in the store
 pub stored_for : (r v : Run) (st : Stores) (client : ℕ) (c : Command) (reply : Reply) (made : Made) → Stands r st → r ≡ v → MayMake v client
@@ -206,7 +254,8 @@ pub stored_for : (r v : Run) (st : Stores) (client : ℕ) (c : Command) (reply :
     → made.fbs ≡ fbs_after st.made client c → MayAccount made c reply
 stored_for r v st client c reply made stands same now at executed_as counted =
     let may = subst (λ (w : Run). MayMake w client) (sym same) now in
-    let executed_is = execution_is r.script.topology (machine r).device.world st.made made st.present client c reply stands.stores.world executed_as in
+    let executed_is = execution_is r.script.topology (machine r).device.world st.made made st.present client c reply stands.stores.world
+    executed_as in
     may_account r st client c reply stands may at (ap (λ (e : Executed). e.reply) executed_is) made
     (ap (λ (w : World). w.things) (world_after r st client c reply stands may at (ap (λ (e : Executed). e.reply) executed_is))
     ∙ ap (λ (e : Executed). e.world.things) executed_is) counted

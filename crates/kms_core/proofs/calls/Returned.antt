@@ -10,8 +10,8 @@ use Rattle.kms_model.specs.Machine.Effects.{next, goes_on as client_goes_on}
 use Rattle.kms_model.specs.Machine.Histories.{legal}
 use Rattle.kms_model.specs.Machine.State.{doing_at}
 use Rattle.kms_model.specs.Machine.Steps.{may, returning_of}
-use Rattle.kms_clients.specs.InStep.{AreClientsOf}
-use Rattle.kms_clients.specs.Standing.{Standing, IsClient, place_of}
+use Rattle.kms_wwlock.specs.InStep.{AreClientsOf}
+use Rattle.kms_wwlock.specs.Standing.{Standing, IsClient, place_of}
 use Rattle.kms_laws.proofs.SmallNumbers.{numbers_fit}
 use Rattle.kms_laws.proofs.ContextsAtAll.{returning-is}
 use Rattle.kms_track.proofs.MachineAnswers.{cleaned_machine}
@@ -47,13 +47,15 @@ waits_for r v st client stands same now =
     }
 
 -- the tracker tells whether the commit is over, while the history goes on
-pub tells_over : (r v : Run) (st : Stores) (client commit : ℕ) → Stands r st → r ≡ v → MayReturn v client → (place_of st.clients client).doing ≡ doing.Returning commit → (not st.stalled && cleaned_of st.tracker commit) ≡ is_over_at v client
+pub tells_over : (r v : Run) (st : Stores) (client commit : ℕ) → Stands r st → r ≡ v → MayReturn v client
+    → (place_of st.clients client).doing ≡ doing.Returning commit → (not st.stalled && cleaned_of st.tracker commit) ≡ is_over_at v client
 tells_over r v st client commit stands same now place =
     let waits = waits_for r v st client stands same now in
     let does : doing_at (machine r) client ≡ doing.Returning commit = waits.doing_is ∙ sym waits.waits ∙ place in
     ap (λ b. not b && cleaned_of st.tracker commit) (sym stands.stores.ended)
     ∙ ap (λ b. not (machine r).stalled && b)
-    (cleaned_machine r.script.topology (machine r) st.tracker commit stands.stores.tracker ∙ ap (λ d. is_some_cleaned (machine r) (returning_of d)) (sym does))
+    (cleaned_machine r.script.topology (machine r) st.tracker commit stands.stores.tracker ∙ ap
+    (λ d. is_some_cleaned (machine r) (returning_of d)) (sym does))
     ∙ ap (λ (w : Run). is_over_at w client) same
 
 -- no commit is told to be over after the end of the history
@@ -62,8 +64,10 @@ ended_over r v st client stands same ended =
     ap (λ b. not b && is_some_cleaned (machine r) (returning_of (doing_at (machine r) client))) (sym (stands.stores.ended ∙ ended))
     ∙ ap (λ (w : Run). is_over_at w client) same
 
-pub returns : (r v : Run) (st : Stores) (client : ℕ) (clients : Standing) (before steps : List Step) → Stands r st → r ≡ v → MayReturn v client → is_over_at v client ≡ true → before ≡ r.steps → steps ≡ before ++ step.Return client ∷ []
-    → AreClientsOf (client_goes_on (machine r) client).contexts clients → Stands (record { script = r.script; steps = steps }) (record st { clients = clients })
+pub returns : (r v : Run) (st : Stores) (client : ℕ) (clients : Standing) (before steps : List Step) → Stands r st → r ≡ v
+    → MayReturn v client → is_over_at v client ≡ true → before ≡ r.steps → steps ≡ before ++ step.Return client ∷ []
+    → AreClientsOf (client_goes_on (machine r) client).contexts clients
+    → Stands (record { script = r.script; steps = steps }) (record st { clients = clients })
 unfolding next legal may
 returns r v st client clients before steps stands same now over is more after =
     let asked = subst (λ (w : Run). MayReturn w client) (sym same) now in
@@ -72,4 +76,5 @@ returns r v st client clients before steps stands same now over is more after =
     (more ∙ ap (λ (xs : List Step). xs ++ step.Return client ∷ []) is) stands
     (let parts = and_parts (not (machine r).stalled) _ over_now in
     and_from (not (machine r).stalled) _ parts.0 (rw asked.returning (ap (is_some_cleaned (machine r)) (sym asked.returning) ∙ parts.1)))
-    (stands_beside r.script (machine r) (client_goes_on (machine r) client) st clients (record { device = refl; records = refl; events = refl; stalled = refl }) after stands.stores)
+    (stands_beside r.script (machine r) (client_goes_on (machine r) client) st clients
+    (record { device = refl; records = refl; events = refl; stalled = refl }) after stands.stores)

@@ -16,8 +16,8 @@ use Rattle.kms_model.specs.Machine.Effects.{answers, fence_signalled, next, sign
 use Rattle.kms_model.specs.Machine.Histories.{legal}
 use Rattle.kms_model.specs.Machine.State.{Machine, command_at, place_at}
 use Rattle.kms_model.specs.Machine.Steps.{is_signal, may}
-use Rattle.kms_clients.specs.InStep.{AreClientsOf}
-use Rattle.kms_clients.specs.Standing.{Standing, place_of}
+use Rattle.kms_wwlock.specs.InStep.{AreClientsOf}
+use Rattle.kms_wwlock.specs.Standing.{Standing, place_of}
 use Rattle.kms_signal.proofs.InStepLemmas as fences
 use Rattle.kms_signal.specs.FenceSets.{FenceSet, is_made}
 use Rattle.kms_signal.specs.StepLaws.{with_signal}
@@ -36,22 +36,30 @@ use Rattle.kms_core.proofs.stores.Recorded.{records_answered}
 
 pub idle_signaller : (r v : Run) (st : Stores) (client : ℕ) → Stands r st → r ≡ v → MaySignal v client → IsIdleAt r st client is_signal
 unfolding legal may
-idle_signaller r v st client stands same now = idle_there r st client is_signal stands (not_ended (machine r).stalled _ (subst (λ (w : Run). MaySignal w client) (sym same) now))
+idle_signaller r v st client stands same now = idle_there r st client is_signal stands
+    (not_ended (machine r).stalled _ (subst (λ (w : Run). MaySignal w client) (sym same) now))
 
 -- what the call leaves of the stores
-pub record HasSignalled (r : Run) (st : Stores) (client : ℕ) (c : Command) (reply : Reply) (clients : Standing) (journal : Logged (ℕ × ℕ)) (replies : Logged Answered) (set : FenceSet) : Type 0 where
+pub record HasSignalled (r : Run) (st : Stores) (client : ℕ) (c : Command) (reply : Reply) (clients : Standing) (journal : Logged (ℕ × ℕ))
+    (replies : Logged Answered) (set : FenceSet) : Type 0 where
   pub found : IsFound r st client is_signal c
   pub replied : (t : Topology) (w : World) → (execute t (with_made w st.made) client c).reply ≡ reply
   pub fences_now : set ≡ with_signal st.fences (fence_of st.made.things c reply)
   pub clients_stand : AreClientsOf (client_goes_on (machine r) client).contexts clients
   pub journal_kept : journal.items ≡ st.journal.items
-  pub replies_more : replies.items ≡ st.replies.items ++ answered client (place_of st.clients client).command (length journal.items) reply ∷ []
+  pub replies_more : replies.items ≡ st.replies.items ++ answered client (place_of st.clients client).command (length journal.items) reply
+      ∷ []
 
-reply_is : (r : Run) (st : Stores) (client : ℕ) (c : Command) (reply : Reply) → Stands r st → ((t : Topology) (w : World) → (execute t (with_made w st.made) client c).reply ≡ reply) → (execute r.script.topology (machine r).device.world client c).reply ≡ reply
+reply_is : (r : Run) (st : Stores) (client : ℕ) (c : Command) (reply : Reply) → Stands r st
+    → ((t : Topology) (w : World) → (execute t (with_made w st.made) client c).reply ≡ reply)
+    → (execute r.script.topology (machine r).device.world client c).reply ≡ reply
 reply_is r st client c reply stands replied =
-    ap (λ v. (execute r.script.topology v client c).reply) (sym (world_of r.script.topology (machine r).device.world st.made st.present stands.stores.world)) ∙ replied r.script.topology (machine r).device.world
+    ap (λ v. (execute r.script.topology v client c).reply)
+    (sym (world_of r.script.topology (machine r).device.world st.made st.present stands.stores.world)) ∙ replied r.script.topology
+    (machine r).device.world
 
-pub tells_signal : (r v : Run) (st : Stores) (client : ℕ) (c : Command) (reply : Reply) → Stands r st → r ≡ v → command_at r.script (machine r) client ≡ Some c
+pub tells_signal : (r v : Run) (st : Stores) (client : ℕ) (c : Command) (reply : Reply) → Stands r st → r ≡ v
+    → command_at r.script (machine r) client ≡ Some c
     → ((t : Topology) (w : World) → (execute t (with_made w st.made) client c).reply ≡ reply) → reply ≡ reply_at v client
 tells_signal r v st client c reply stands same at replied =
     sym (reply_is r st client c reply stands replied)
@@ -59,7 +67,8 @@ tells_signal r v st client c reply stands same at replied =
     ∙ ap (λ (w : Run). reply_at w client) same
 
 -- the fence that the machine signals
-signals_fence : (m : Machine) (label : ℕ) (r : Reply) → fence_signalled m (Some (command.Signal label)) r ≡ signals m (fence_of m.device.world.things (command.Signal label) r)
+signals_fence : (m : Machine) (label : ℕ) (r : Reply) → fence_signalled m (Some (command.Signal label)) r
+    ≡ signals m (fence_of m.device.world.things (command.Signal label) r)
 signals_fence m label (reply.Made id) = refl
 signals_fence m label reply.Done = refl
 signals_fence m label (reply.Commit k) = refl
@@ -72,17 +81,30 @@ signals_fence m label (reply.Event event) = refl
 signals_fence m label reply.NoEvent = refl
 
 -- all stores stand once a fence, if any, that was made is signalled
-signal_stands : (s : Script) (m : Machine) (client : ℕ) (r : Reply) (o : Option ℕ) (st : Stores) (clients : Standing) (journal : Logged (ℕ × ℕ)) (replies : Logged Answered) → ((id : ℕ) → o ≡ Some id → is_made st.fences id ≡ true)
+signal_stands : (s : Script) (m : Machine) (client : ℕ) (r : Reply) (o : Option ℕ) (st : Stores) (clients : Standing)
+    (journal : Logged (ℕ × ℕ)) (replies : Logged Answered) → ((id : ℕ) → o ≡ Some id → is_made st.fences id ≡ true)
     → AreClientsOf (client_goes_on m client).contexts clients
-    → AreRecords (record m.records { replies = answered client (place_at m client).command (length m.records.journal) r ∷ m.records.replies }) journal.items replies.items st.latches.items → StandsAt s m st
-    → StandsAt s (client_goes_on (signals (answers m client r) o) client) (record st { clients = clients; journal = journal; replies = replies; fences = with_signal st.fences o })
+    → AreRecords (record m.records {
+      replies = answered client (place_at m client).command (length m.records.journal) r
+          ∷ m.records.replies;
+    }) journal.items replies.items st.latches.items → StandsAt s m st
+    → StandsAt s (client_goes_on (signals (answers m client r) o) client)
+    (record st { clients = clients; journal = journal; replies = replies; fences = with_signal st.fences o })
 signal_stands s m client r None st clients journal replies made clients_stand recorded stands =
-    stands_moved s m client (record m.records { replies = answered client (place_at m client).command (length m.records.journal) r ∷ m.records.replies }) m.device.world m.device.signalled m.events st clients journal replies st.made st.fences st.queues refl
+    stands_moved s m client (record m.records {
+      replies = answered client (place_at m client).command (length m.records.journal) r
+          ∷ m.records.replies;
+    }) m.device.world m.device.signalled m.events st clients journal replies st.made st.fences st.queues refl
     clients_stand recorded stands.world stands.fences stands.fenced (λ other there. there) stands.queues stands
 signal_stands s m client r (Some id) st clients journal replies made clients_stand recorded stands =
-    stands_moved s m client (record m.records { replies = answered client (place_at m client).command (length m.records.journal) r ∷ m.records.replies }) m.device.world (id ∷ m.device.signalled) m.events st clients journal replies st.made
-    (with_signal st.fences (Some id)) st.queues refl clients_stand recorded stands.world (fences.fence_signalled st.fences m.device.signalled id stands.fences)
-    (signalled_fenced m.device.world m.device.signalled st.fences id (made id refl) stands.fenced) (λ other there. still_made st.fences id other ∙ there) stands.queues stands
+    stands_moved s m client (record m.records {
+      replies = answered client (place_at m client).command (length m.records.journal) r
+          ∷ m.records.replies;
+    }) m.device.world (id ∷ m.device.signalled) m.events st clients journal replies st.made
+    (with_signal st.fences (Some id)) st.queues refl clients_stand recorded stands.world
+    (fences.fence_signalled st.fences m.device.signalled id stands.fences)
+    (signalled_fenced m.device.world m.device.signalled st.fences id (made id refl) stands.fenced)
+    (λ other there. still_made st.fences id other ∙ there) stands.queues stands
 
 -- a command that passes is a `signal`
 pub record IsSignal (c : Command) : Type 0 where
@@ -101,25 +123,35 @@ signal_is (command.Fence label) e = absurd (false≢true e)
 signal_is (command.Atomic r) e = absurd (false≢true e)
 signal_is command.Wait e = absurd (false≢true e)
 
-signalled_stands : (r : Run) (st : Stores) (client label : ℕ) (reply : Reply) (clients : Standing) (journal : Logged (ℕ × ℕ)) (replies : Logged Answered) (set : FenceSet) → Stands r st → IsIdleAt r st client is_signal
+signalled_stands : (r : Run) (st : Stores) (client label : ℕ) (reply : Reply) (clients : Standing) (journal : Logged (ℕ × ℕ))
+    (replies : Logged Answered) (set : FenceSet) → Stands r st → IsIdleAt r st client is_signal
     → HasSignalled r st client (command.Signal label) reply clients journal replies set
-    → StandsAt r.script (next r.script (machine r) (step.Signal client)) (record st { clients = clients; journal = journal; replies = replies; fences = set })
+    → StandsAt r.script (next r.script (machine r) (step.Signal client))
+    (record st { clients = clients; journal = journal; replies = replies; fences = set })
 unfolding next
 signalled_stands r st client label reply clients journal replies set stands there has =
     let m = machine r in
     let answer = reply_is r st client (command.Signal label) reply stands has.replied in
     let things = stands.stores.world.things in
-    let same_fence : fence_of st.made.things (command.Signal label) reply ≡ fence_of m.device.world.things (command.Signal label) reply = ap (λ ts. fence_of ts (command.Signal label) reply) (sym things) in
-    let signal : set ≡ with_signal st.fences (fence_of m.device.world.things (command.Signal label) reply) = has.fences_now ∙ ap (λ o. with_signal st.fences o) same_fence in
-    rw has.found.at (subst (λ x. StandsAt r.script (client_goes_on (fence_signalled (answers m client x) (Some (command.Signal label)) x) client) (record st { clients = clients; journal = journal; replies = replies; fences = set })) (sym answer)
+    let same_fence : fence_of st.made.things (command.Signal label) reply
+    ≡ fence_of m.device.world.things (command.Signal label) reply = ap (λ ts. fence_of ts (command.Signal label) reply) (sym things) in
+    let signal : set ≡ with_signal st.fences (fence_of m.device.world.things (command.Signal label) reply) = has.fences_now ∙ ap
+    (λ o. with_signal st.fences o) same_fence in
+    rw has.found.at (subst (λ x. StandsAt r.script
+    (client_goes_on (fence_signalled (answers m client x) (Some (command.Signal label)) x) client)
+    (record st { clients = clients; journal = journal; replies = replies; fences = set })) (sym answer)
     (rw (signal, signals_fence (answers m client reply) label reply)
     (signal_stands r.script m client reply (fence_of m.device.world.things (command.Signal label) reply) st clients journal replies
-    (λ id is. signals_made r.script.topology m.device.world client label id m.device.signalled st.fences stands.stores.fenced (ap (λ x. fence_of m.device.world.things (command.Signal label) x) answer ∙ is))
-    has.clients_stand (records_answered m st client (place_of st.clients client).command reply journal.items replies.items has.journal_kept has.replies_more there.number stands.stores.recorded) stands.stores)))
+    (λ id is. signals_made r.script.topology m.device.world client label id m.device.signalled st.fences stands.stores.fenced
+    (ap (λ x. fence_of m.device.world.things (command.Signal label) x) answer ∙ is))
+    has.clients_stand (records_answered m st client (place_of st.clients client).command reply journal.items replies.items has.journal_kept
+    has.replies_more there.number stands.stores.recorded) stands.stores)))
 
-pub signals_one : (r v : Run) (st : Stores) (client : ℕ) (c : Command) (reply : Reply) (clients : Standing) (journal : Logged (ℕ × ℕ)) (replies : Logged Answered) (set : FenceSet) (before steps : List Step) → Stands r st → r ≡ v → MaySignal v client
+pub signals_one : (r v : Run) (st : Stores) (client : ℕ) (c : Command) (reply : Reply) (clients : Standing) (journal : Logged (ℕ × ℕ))
+    (replies : Logged Answered) (set : FenceSet) (before steps : List Step) → Stands r st → r ≡ v → MaySignal v client
     → HasSignalled r st client c reply clients journal replies set → before ≡ r.steps → steps ≡ before ++ step.Signal client ∷ []
-    → Stands (record { script = r.script; steps = steps }) (record st { clients = clients; journal = journal; replies = replies; fences = set })
+    → Stands (record { script = r.script; steps = steps })
+    (record st { clients = clients; journal = journal; replies = replies; fences = set })
 signals_one r v st client c reply clients journal replies set before steps stands same now has is more =
     let one = signal_is c has.found.passes in
     goes_on r st (record st { clients = clients; journal = journal; replies = replies; fences = set })

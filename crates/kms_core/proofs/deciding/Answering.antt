@@ -11,8 +11,8 @@ use Rattle.kms_model.specs.declared.runs.Place.{Place}
 use Rattle.kms_model.specs.Machine.Effects.{decided}
 use Rattle.kms_model.specs.Machine.State.{Machine, Records, doing_at, place_at}
 use Rattle.kms_model.specs.Machine.Steps.{is_taking}
-use Rattle.kms_clients.specs.InStep.{AreClientsOf, IsTaking, after_decision}
-use Rattle.kms_clients.specs.Standing.{Standing, IsClient, place_of}
+use Rattle.kms_wwlock.specs.InStep.{AreClientsOf, IsTaking, after_decision}
+use Rattle.kms_wwlock.specs.Standing.{Standing, IsClient, place_of}
 use Rattle.kms_laws.proofs.Present.{reverse_more}
 use Rattle.kms_laws.proofs.SmallNumbers.{numbers_fit}
 use Rattle.kms_core.specs.Decisions.{Decides}
@@ -34,7 +34,8 @@ pub record MayDecide (client : ℕ) (clients : Standing) : Type 0 where
   pub taking : IsTaking (place_of clients client).doing
   pub command_fits : (place_of clients client).command < 4294967295
 
-pub may_decide : (r : Run) (st : Stores) (client : ℕ) → Stands r st → IsClient client → is_taking (doing_at (machine r) client) ≡ true → MayDecide client st.clients
+pub may_decide : (r : Run) (st : Stores) (client : ℕ) → Stands r st → IsClient client → is_taking (doing_at (machine r) client) ≡ true
+    → MayDecide client st.clients
 may_decide r st client stands number taking =
     let same = stands.stores.clients.places client number in
     let fit = (numbers_fit r.script r.steps stands.formed stands.history).commands client in
@@ -44,42 +45,53 @@ may_decide r st client stands number taking =
       command_fits = omega (arith, fit, ap (λ (p : Place). p.command) same);
     }
 
-pub may_decide_as : (r v : Run) (st : Stores) (client : ℕ) (step : Step) (reply : Reply) → Stands r st → r ≡ v → Decides v client step reply → MayDecide client st.clients
+pub may_decide_as : (r v : Run) (st : Stores) (client : ℕ) (step : Step) (reply : Reply) → Stands r st → r ≡ v → Decides v client step reply
+    → MayDecide client st.clients
 may_decide_as r v st client step reply stands same asked =
     let decides = subst (λ (w : Run). Decides w client step reply) (sym same) asked in
     may_decide r st client stands decides.number decides.taking
 
 -- how many commands were accepted
-pub accepted_count : (r : Records) (journal : List (ℕ × ℕ)) → journal ≡ map entry_pair (reverse r.journal) → length journal ≡ length r.journal
+pub accepted_count : (r : Records) (journal : List (ℕ × ℕ)) → journal ≡ map entry_pair (reverse r.journal) → length journal
+    ≡ length r.journal
 accepted_count r journal is = ap length is ∙ length-map (reverse r.journal) entry_pair ∙ length-reverse r.journal
 
 -- one answer more
-answered_more : (m : Machine) (client command place : ℕ) (reply : Reply) (replies more : List Answered) → command ≡ (place_at m client).command → place ≡ length m.records.journal
-    → replies ≡ reverse m.records.replies → more ≡ replies ++ record { client = client; command = command; place = place; reply = reply } ∷ []
+answered_more : (m : Machine) (client command place : ℕ) (reply : Reply) (replies more : List Answered) → command
+    ≡ (place_at m client).command → place ≡ length m.records.journal
+    → replies ≡ reverse m.records.replies → more ≡ replies ++ record { client = client; command = command; place = place; reply = reply }
+    ∷ []
     → more ≡ reverse (decided m client reply).records.replies
 answered_more m client command place reply replies more command_is place_is old is =
     is ∙ rw (command_is, place_is, old)
-    (sym (reverse_more (record { client = client; command = (place_at m client).command; place = length m.records.journal; reply = reply }) m.records.replies))
+    (sym (reverse_more (record { client = client; command = (place_at m client).command; place = length m.records.journal; reply = reply })
+    m.records.replies))
 
 -- the stores stand after a decision
-pub decided_stands : (r v : Run) (st : Stores) (client command place : ℕ) (step : Step) (reply : Reply) (clients : Standing) (replies more : Logged Answered) (before steps : List Step)
+pub decided_stands : (r v : Run) (st : Stores) (client command place : ℕ) (step : Step) (reply : Reply) (clients : Standing)
+    (replies more : Logged Answered) (before steps : List Step)
     → Stands r st → r ≡ v → Decides v client step reply
     → command ≡ (place_of st.clients client).command → place ≡ length st.journal.items
     → before ≡ r.steps → steps ≡ before ++ step ∷ []
-    → replies.items ≡ st.replies.items → more.items ≡ replies.items ++ record { client = client; command = command; place = place; reply = reply } ∷ []
+    → replies.items ≡ st.replies.items → more.items ≡ replies.items
+    ++ record { client = client; command = command; place = place; reply = reply } ∷ []
     → AreClientsOf (after_decision (machine r) client) clients
     → Stands (record { script = r.script; steps = steps }) (record st { clients = clients; replies = more })
-decided_stands r v st client command place step reply clients replies more before steps stands same asked command_is place_is steps_are steps_more replies_are replies_more now =
+decided_stands r v st client command place step reply clients replies more before steps stands same asked command_is place_is steps_are
+    steps_more replies_are replies_more now =
     let decides = subst (λ (w : Run). Decides w client step reply) (sym same) asked in
     let m : Machine = machine r in
     let recorded = stands.stores.recorded in
-    let at_command : command ≡ (place_at m client).command = command_is ∙ ap (λ (p : Place). p.command) (stands.stores.clients.places client decides.number) in
+    let at_command : command ≡ (place_at m client).command = command_is ∙ ap (λ (p : Place). p.command)
+    (stands.stores.clients.places client decides.number) in
     let at_place : place ≡ length m.records.journal = place_is ∙ accepted_count m.records st.journal.items recorded.accepted in
     let after : StandsAt r.script (decided m client reply) (record st { clients = clients; replies = more }) =
-    told_anew r.script m st (decided m client reply).contexts (decided m client reply).records.replies m.stalled clients more st.latches st.freed st.stalled now
+    told_anew r.script m st (decided m client reply).contexts (decided m client reply).records.replies m.stalled clients more st.latches
+    st.freed st.stalled now
     (record {
       accepted = recorded.accepted;
-      answered = answered_more m client command place reply replies.items more.items at_command at_place (replies_are ∙ recorded.answered) replies_more;
+      answered = answered_more m client command place reply replies.items more.items at_command at_place (replies_are ∙ recorded.answered)
+          replies_more;
       latched = recorded.latched;
     })
     stands.stores.ended stands.stores in

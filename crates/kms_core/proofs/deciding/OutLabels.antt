@@ -1,5 +1,6 @@
 -- The labels of a commit's out-fences, and the planes that it waits for.
-use Rattle.std.proofs.Common.{◌≡◌, ℕ, zero, suc, ◌≤◌, ◌<◌, List, [], ◌∷◌, length, map, take, Option, Some, None, inl, inr, refl, sym, ap, ◌∙◌, subst, arith}
+use Rattle.std.proofs.Common.{◌≡◌, ℕ, zero, suc, ◌≤◌, ◌<◌, List, [], ◌∷◌, length, map, take, Option, Some, None, inl, inr, refl, sym, ap}
+use Rattle.std.proofs.Common.{◌∙◌, subst, arith}
 use Rattle.std.specs.List.{filter_map, range_with_len}
 use Rattle.std.specs.Option.{option_map}
 use Rattle.std.proofs.lemmas.Bool.{cases_eq, cases_lt, eq-eqb, ltb-true, ne_eqb}
@@ -48,7 +49,8 @@ entry f crtc = option_map (λ label. (obj_id crtc, label)) (f crtc)
 none_in : (f : ℕ → Option ℕ) (crtcs : List ℕ) (crtc : ℕ) → f crtc ≡ None → label_in (filter_map (entry f) crtcs) crtc ≡ None
 none_in f [] crtc none = refl
 none_in f (x ∷ xs) crtc none = by_label (f x) refl (none_in f xs crtc none) where
-  by_label : (o : Option ℕ) → f x ≡ o → label_in (filter_map (entry f) xs) crtc ≡ None → label_in (filter_map (entry f) (x ∷ xs)) crtc ≡ None
+  by_label : (o : Option ℕ) → f x ≡ o → label_in (filter_map (entry f) xs) crtc ≡ None → label_in (filter_map (entry f) (x ∷ xs)) crtc
+      ≡ None
   by_label None is rest = rw is rest
   by_label (Some label) is rest =
       elim (cases_eq x crtc) [
@@ -59,7 +61,8 @@ none_in f (x ∷ xs) crtc none = by_label (f x) refl (none_in f xs crtc none) wh
 found_in : (f : ℕ → Option ℕ) (crtcs : List ℕ) (crtc : ℕ) → IsIn crtc crtcs → label_in (filter_map (entry f) crtcs) crtc ≡ f crtc
 found_in f [] crtc is = absurd is
 found_in f (x ∷ xs) crtc is = by_label (f x) refl is (found_in f xs crtc) where
-  by_label : (o : Option ℕ) → f x ≡ o → IsIn crtc (x ∷ xs) → (IsIn crtc xs → label_in (filter_map (entry f) xs) crtc ≡ f crtc) → label_in (filter_map (entry f) (x ∷ xs)) crtc ≡ f crtc
+  by_label : (o : Option ℕ) → f x ≡ o → IsIn crtc (x ∷ xs) → (IsIn crtc xs → label_in (filter_map (entry f) xs) crtc ≡ f crtc)
+      → label_in (filter_map (entry f) (x ∷ xs)) crtc ≡ f crtc
   by_label None is_none (inl same) rest =
       let none : f crtc ≡ None = ap f (sym same) ∙ is_none in
       rw is_none (none_in f xs crtc none ∙ sym none)
@@ -70,16 +73,22 @@ found_in f (x ∷ xs) crtc is = by_label (f x) refl is (found_in f xs crtc) wher
         | inr apart ↦ rw (is_label, ne_eqb x crtc apart) (beyond there apart rest)
       ]
     where
-      beyond : IsIn crtc (x ∷ xs) → (x ≡ crtc → ⊥) → (IsIn crtc xs → label_in (filter_map (entry f) xs) crtc ≡ f crtc) → label_in (filter_map (entry f) xs) crtc ≡ f crtc
+      beyond : IsIn crtc (x ∷ xs) → (x ≡ crtc → ⊥) → (IsIn crtc xs → label_in (filter_map (entry f) xs) crtc ≡ f crtc)
+          → label_in (filter_map (entry f) xs) crtc ≡ f crtc
       beyond (inl same) apart rest = absurd (apart same)
       beyond (inr there) apart rest = rest there
 
-first_labels : (f : ℕ → Option ℕ) (n : ℕ) → n ≤ 4 → take n (labels_in (filter_map (entry f) (map (object_id Crtc) (range_with_len 0 n)))) ≡ map f (map (object_id Crtc) (range_with_len 0 n))
+first_labels : (f : ℕ → Option ℕ) (n : ℕ) → n ≤ 4 → take n (labels_in (filter_map (entry f) (map (object_id Crtc) (range_with_len 0 n))))
+    ≡ map f (map (object_id Crtc) (range_with_len 0 n))
 first_labels f zero few = refl
 first_labels f (suc zero) few = rw (found_in f (100 ∷ []) 100 (inl refl)) refl
 first_labels f (suc (suc zero)) few = rw (found_in f (100 ∷ 101 ∷ []) 100 (inl refl), found_in f (100 ∷ 101 ∷ []) 101 (inr (inl refl))) refl
 first_labels f (suc (suc (suc zero))) few =
-    rw (found_in f (100 ∷ 101 ∷ 102 ∷ []) 100 (inl refl), found_in f (100 ∷ 101 ∷ 102 ∷ []) 101 (inr (inl refl)), found_in f (100 ∷ 101 ∷ 102 ∷ []) 102 (inr (inr (inl refl)))) refl
+    rw (
+      found_in f (100 ∷ 101 ∷ 102 ∷ []) 100 (inl refl),
+      found_in f (100 ∷ 101 ∷ 102 ∷ []) 101 (inr (inl refl)),
+      found_in f (100 ∷ 101 ∷ 102 ∷ []) 102 (inr (inr (inl refl))),
+    ) refl
 first_labels f (suc (suc (suc (suc zero)))) few =
     rw (
       found_in f (100 ∷ 101 ∷ 102 ∷ 103 ∷ []) 100 (inl refl),
@@ -90,14 +99,16 @@ first_labels f (suc (suc (suc (suc zero)))) few =
 first_labels f (suc (suc (suc (suc (suc n))))) few = absurd (omega (arith, few))
 
 -- the labels at the CRTCs of a device
-pub labels_of_crtcs : (t : Topology) (assigns : List Assign) → t.crtcs ≤ 4 → take t.crtcs (labels_in (out_fences t assigns)) ≡ map (out_fence_label assigns) (ids_of t Crtc)
+pub labels_of_crtcs : (t : Topology) (assigns : List Assign) → t.crtcs ≤ 4 → take t.crtcs (labels_in (out_fences t assigns))
+    ≡ map (out_fence_label assigns) (ids_of t Crtc)
 unfolding out_fences
 labels_of_crtcs t assigns few = first_labels (out_fence_label assigns) t.crtcs few
 
 -- A label at any place
 
 -- an accepted request asks for an out-fence of a CRTC of the device alone
-no_label : (t : Topology) (w : World) (r : Request) (i : ℕ) → IsRequestAt t w r → i < 4 → t.crtcs ≤ i → out_fence_label r.assigns (object_id Crtc i) ≡ None
+no_label : (t : Topology) (w : World) (r : Request) (i : ℕ) → IsRequestAt t w r → i < 4 → t.crtcs ≤ i
+    → out_fence_label r.assigns (object_id Crtc i) ≡ None
 no_label t w r i at low above = go (last_value r.assigns (object_id Crtc i) OUT_FENCE_PTR) refl where
   go : (o : Option Value) → last_value r.assigns (object_id Crtc i) OUT_FENCE_PTR ≡ o → new_label o ≡ None
   go None is = refl
@@ -107,15 +118,19 @@ no_label t w r i at low above = go (last_value r.assigns (object_id Crtc i) OUT_
       let few = few_objects t at.device in
       let below : by.item.index < count_of t by.item.kind = ltb-true by.item.index (count_of t by.item.kind) ok.object_exists in
       let few_kind : count_of t by.item.kind ≤ 16 = few_of t by.item.kind few in
-      let kind : by.item.kind ≡ Crtc = first_id-apart by.item.kind Crtc by.item.index i (omega (arith, below, few_kind)) (omega (arith, low)) by.object_is in
-      let place : object_id Crtc by.item.index ≡ object_id Crtc i = subst (λ (k : Kind). object_id k by.item.index ≡ object_id Crtc i) kind by.object_is in
+      let kind : by.item.kind ≡ Crtc = first_id-apart by.item.kind Crtc by.item.index i (omega (arith, below, few_kind))
+      (omega (arith, low)) by.object_is in
+      let place : object_id Crtc by.item.index ≡ object_id Crtc i = subst (λ (k : Kind). object_id k by.item.index ≡ object_id Crtc i) kind
+      by.object_is in
       let within : by.item.index < t.crtcs = subst (λ (k : Kind). by.item.index < count_of t k) kind below in
       absurd (omega (arith, place, within, above))
 
-pub label_at_crtc : (t : Topology) (w : World) (r : Request) (i : ℕ) → IsRequestAt t w r → i < 4 → label_in (out_fences t r.assigns) (object_id Crtc i) ≡ out_fence_label r.assigns (object_id Crtc i)
+pub label_at_crtc : (t : Topology) (w : World) (r : Request) (i : ℕ) → IsRequestAt t w r → i < 4
+    → label_in (out_fences t r.assigns) (object_id Crtc i) ≡ out_fence_label r.assigns (object_id Crtc i)
 unfolding out_fences
 label_at_crtc t w r i at low =
     elim (cases_lt i t.crtcs) [
       | inl within ↦ found_in (out_fence_label r.assigns) (ids_of t Crtc) (object_id Crtc i) (ids-has t Crtc i within)
-      | inr above ↦ (let none = no_label t w r i at low above in none_in (out_fence_label r.assigns) (ids_of t Crtc) (object_id Crtc i) none ∙ sym none)
+      | inr above ↦ (let none = no_label t w r i at low above
+          in none_in (out_fence_label r.assigns) (ids_of t Crtc) (object_id Crtc i) none ∙ sym none)
     ]

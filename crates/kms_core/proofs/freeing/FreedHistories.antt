@@ -1,5 +1,6 @@
 -- What is freed along a history.
-use Rattle.std.proofs.Common.{◌≡◌, ℕ, suc, ◌+◌, ◌≤◌, List, [], ◌∷◌, ◌++◌, length, map, Bool, true, false, ◌==◌, Option, Some, refl, sym, ap, ◌∙◌, subst, arith, inl, inr, ◌⊎◌}
+use Rattle.std.proofs.Common.{◌≡◌, ℕ, suc, ◌+◌, ◌≤◌, List, [], ◌∷◌, ◌++◌, length, map, Bool, true, false, ◌==◌, Option, Some, refl, sym, ap}
+use Rattle.std.proofs.Common.{◌∙◌, subst, arith, inl, inr, ◌⊎◌}
 use Rattle.std.specs.Prelude.{filter}
 use Rattle.std.proofs.lemmas.Bool.{cond-false, false_from_ne_true, false≢true, ne_eqb}
 use Rattle.kms_model.specs.declared.objects.Kind.TheVariants.{Crtc}
@@ -78,16 +79,20 @@ module _ (s : Script) (m : Machine) where
   committing : (client : ℕ) (r : Request) (b w : Bool) → Commits s m (swapped_as s.topology b w m client r) client
   committing client r b w =
       by_two (λ b w. Commits s m (swapped_as s.topology b w m client r) client)
-      (record { request = r; world = refl; commits = refl; cleaned = refl; live = refl }) (record { request = r; world = refl; commits = refl; cleaned = refl; live = refl })
-      (record { request = r; world = refl; commits = refl; cleaned = refl; live = refl }) (record { request = r; world = refl; commits = refl; cleaned = refl; live = refl }) b w
+      (record { request = r; world = refl; commits = refl; cleaned = refl; live = refl })
+      (record { request = r; world = refl; commits = refl; cleaned = refl; live = refl })
+      (record { request = r; world = refl; commits = refl; cleaned = refl; live = refl })
+      (record { request = r; world = refl; commits = refl; cleaned = refl; live = refl }) b w
 
-  executing : (client : ℕ) (c : Command) → command_at s m client ≡ Some c → is_making c ≡ true → (b : Bool) → Executes s m (made_as b m client (execute s.topology m.device.world client c)) client
+  executing : (client : ℕ) (c : Command) → command_at s m client ≡ Some c → is_making c ≡ true → (b : Bool)
+      → Executes s m (made_as b m client (execute s.topology m.device.world client c)) client
   executing client c e making b =
       by_bool (λ b. Executes s m (made_as b m client (execute s.topology m.device.world client c)) client)
       (record { command = c; at_place = e; making = making; world = refl; commits = refl; cleaned = refl; live = refl })
       (record { command = c; at_place = e; making = making; world = refl; commits = refl; cleaned = refl; live = refl }) b
 
-  flushing : (k c : ℕ) → IsIn c (ids_of s.topology Crtc) → (b : Bool) (o : Option ℕ) → Latches s m (latched_as s.topology b o (flushed_at m k c) k c (count_at m.device c)) c
+  flushing : (k c : ℕ) → IsIn c (ids_of s.topology Crtc) → (b : Bool) (o : Option ℕ)
+      → Latches s m (latched_as s.topology b o (flushed_at m k c) k c (count_at m.device c)) c
   flushing k c is b o =
       by_latch (λ b o. Latches s m (latched_as s.topology b o (flushed_at m k c) k c (count_at m.device c)) c)
       (record { world = refl; commits = refl; cleaned = refl; latch = _; of_crtc = refl; is_crtc = is; recorded = refl })
@@ -95,7 +100,8 @@ module _ (s : Script) (m : Machine) where
       (record { world = refl; commits = refl; cleaned = refl; latch = _; of_crtc = refl; is_crtc = is; recorded = refl })
       (λ fence. record { world = refl; commits = refl; cleaned = refl; latch = _; of_crtc = refl; is_crtc = is; recorded = refl }) b o
 
-  blanking : (k c : ℕ) → IsIn c (ids_of s.topology Crtc) → (b : Bool) (o : Option ℕ) → Latches s m (latched_as s.topology b o (counts_vblank m c) k c (count_at m.device c + 1)) c
+  blanking : (k c : ℕ) → IsIn c (ids_of s.topology Crtc) → (b : Bool) (o : Option ℕ)
+      → Latches s m (latched_as s.topology b o (counts_vblank m c) k c (count_at m.device c + 1)) c
   blanking k c is b o =
       by_latch (λ b o. Latches s m (latched_as s.topology b o (counts_vblank m c) k c (count_at m.device c + 1)) c)
       (record { world = refl; commits = refl; cleaned = refl; latch = _; of_crtc = refl; is_crtc = is; recorded = refl })
@@ -120,7 +126,8 @@ module _ (s : Script) (m : Machine) where
       makes = λ client c e making idle b eb. executing client c e making b;
       signalled = λ client c e is_signal idle o.
           by_fence (λ o. SameNeeds m (goes_on (signals (answers m client (execute s.topology m.device.world client c).reply) o) client))
-          (record { world = refl; commits = refl; cleaned = refl; live = refl }) (λ fence. record { world = refl; commits = refl; cleaned = refl; live = refl }) o;
+          (record { world = refl; commits = refl; cleaned = refl; live = refl })
+          (λ fence. record { world = refl; commits = refl; cleaned = refl; live = refl }) o;
       read_none = λ client c e is_wait idle none. record { world = refl; commits = refl; cleaned = refl; live = refl };
       read_one = λ client c e is_wait idle event events some. record { world = refl; commits = refl; cleaned = refl; live = refl };
     };
@@ -142,7 +149,8 @@ module _ (s : Script) (m : Machine) where
 
 -- A history that goes on by a legal step
 
-module _ (s : Script) (h : List Step) (last : Step) (plain : IsPlainScript s) (is : is_history s h ≡ true) (is_legal : legal s (at s h) last ≡ true) where
+module _ (s : Script) (h : List Step) (last : Step) (plain : IsPlainScript s) (is : is_history s h ≡ true)
+    (is_legal : legal s (at s h) last ≡ true) where
   abbrev before : Machine
   before = at s h
 
@@ -163,18 +171,31 @@ module _ (s : Script) (h : List Step) (last : Step) (plain : IsPlainScript s) (i
 
   unclean : has_number (at s h).device.marks.cleaned (length (at s h).device.commits) ≡ false
   unclean = false_from_ne_true _ (λ y.
-      let low = H.tail.marks.claimed (length (at s h).device.commits) (H.tail.marks.done (length (at s h).device.commits) (H.tail.marks.clean_done (length (at s h).device.commits) y)).0 in absurd (omega (arith, low)))
+      let low = H.tail.marks.claimed (length (at s h).device.commits)
+      (H.tail.marks.done (length (at s h).device.commits) (H.tail.marks.clean_done (length (at s h).device.commits) y)).0
+      in absurd (omega (arith, low)))
 
-  back_same : (t_n : (next s (at s h) last).device.world ≡ (at s h).device.world) (x : Thing) → IsIn x (at s h).device.world.things → is_needed s.topology (next s (at s h) last) x ≡ true → is_needed s.topology (at s h) x ≡ true
+  back_same : (t_n : (next s (at s h) last).device.world ≡ (at s h).device.world) (x : Thing) → IsIn x (at s h).device.world.things
+      → is_needed s.topology (next s (at s h) last) x ≡ true → is_needed s.topology (at s h) x ≡ true
   back_same same_world x x_in needed =
       stays s h last plain is is_legal x x x_in (needs_of s.topology (next s (at s h) last) x needed).framebuffer
-      (ap (λ w. thing_with_id w.things x.id) same_world ∙ with-id 1000 (at s h).device.world.things x H.present.lawful.numbered.things x_in) needed
+      (ap (λ w. thing_with_id w.things x.id) same_world ∙ with-id 1000 (at s h).device.world.things x H.present.lawful.numbered.things x_in)
+      needed
 
   -- steps that free nothing
   pub quiet_swap : (client : ℕ) → Commits s (at s h) (next s (at s h) last) client → IsQuiet s.topology (at s h) (next s (at s h) last)
   quiet_swap client C =
       swap_quiet s (at s h) (next s (at s h) last) client (commit_of (at s h) client C.request)
-      (record { holds = H; holds_now = H_after; world = C.world; commits = C.commits; own = refl; cleaned = C.cleaned; live = C.live; unclean = unclean })
+      (record {
+        holds = H;
+        holds_now = H_after;
+        world = C.world;
+        commits = C.commits;
+        own = refl;
+        cleaned = C.cleaned;
+        live = C.live;
+        unclean = unclean;
+      })
       (λ u v u_in framebuffer found needed. stays s h last plain is is_legal u v u_in framebuffer found needed)
 
   pub quiet_needs : SameNeeds (at s h) (next s (at s h) last) → IsQuiet s.topology (at s h) (next s (at s h) last)
@@ -186,28 +207,46 @@ module _ (s : Script) (h : List Step) (last : Step) (plain : IsPlainScript s) (i
   unfolding last_latched
   others_same c L other other_in apart =
       let o : IsObject s.topology Crtc other = ids-in s.topology Crtc other other_in in
-      let not_this : L.latch.crtc ≡ o.index → ⊥ = λ e. apart (sym (crtc_index s.topology c H.tail.few L.is_crtc) ∙ ap (object_id Crtc) (sym L.of_crtc ∙ e) ∙ sym o.same) in
-      subst (λ z. decoded_picture s.topology (next s (at s h) last).device.live z ≡ decoded_picture s.topology (at s h).device.live z) (sym o.same)
-      (W_after.steady o.index o.within ∙ ap (λ ls. last_latched ls o.index) L.recorded ∙ cond-false (L.latch.crtc == o.index) L.latch.picture (last_latched (at s h).records.latches o.index) (ne_eqb L.latch.crtc o.index not_this) ∙ sym (W.steady o.index o.within))
+      let not_this : L.latch.crtc ≡ o.index → ⊥ = λ e. apart
+      (sym (crtc_index s.topology c H.tail.few L.is_crtc) ∙ ap (object_id Crtc) (sym L.of_crtc ∙ e) ∙ sym o.same) in
+      subst (λ z. decoded_picture s.topology (next s (at s h) last).device.live z ≡ decoded_picture s.topology (at s h).device.live z)
+      (sym o.same)
+      (W_after.steady o.index o.within ∙ ap (λ ls. last_latched ls o.index) L.recorded ∙ cond-false (L.latch.crtc == o.index)
+      L.latch.picture (last_latched (at s h).records.latches o.index) (ne_eqb L.latch.crtc o.index not_this) ∙ sym
+      (W.steady o.index o.within))
 
-  pub latch_frees : (c : ℕ) (ids : List ℕ) → Latches s (at s h) (next s (at s h) last) c → AreAllOf ids (λ id. picture_names id (decoded_picture s.topology (at s h).device.live c)) → IsTold s.topology (at s h) (next s (at s h) last) ids
+  pub latch_frees : (c : ℕ) (ids : List ℕ) → Latches s (at s h) (next s (at s h) last) c
+      → AreAllOf ids (λ id. picture_names id (decoded_picture s.topology (at s h).device.live c))
+      → IsTold s.topology (at s h) (next s (at s h) last) ids
   latch_frees c ids L A =
       latch_told s.topology (at s h) (next s (at s h) last) c ids H.present.lawful.numbered.things
-      (record { world = L.world; commits = L.commits; cleaned = L.cleaned; is_crtc = L.is_crtc; others = others_same c L }) (back_same L.world) A
+      (record { world = L.world; commits = L.commits; cleaned = L.cleaned; is_crtc = L.is_crtc; others = others_same c L })
+      (back_same L.world) A
 
   -- a command
   pub make_frees : (client : ℕ) → (X : Executes s (at s h) (next s (at s h) last) client)
       → MadeFrees s.topology (at s h) (next s (at s h) last) client X.command
       (execute s.topology (at s h).device.world client X.command).reply
   make_frees client X =
-      let follows = execute_follows s.topology (at s h).device.world client X.command H.present.lawful H.present.kept (plain.modes _ X.command X.at_place) (not_atomic X.command X.making) in
+      let follows = execute_follows s.topology (at s h).device.world client X.command H.present.lawful H.present.kept
+      (plain.modes _ X.command X.at_place) (not_atomic X.command X.making) in
       made_frees s.topology (at s h) (next s (at s h) last) client X.command X.making
-      (record { numbered = H.present.lawful.numbered.things; like = follows.like; world = X.world; commits = X.commits; cleaned = X.cleaned; live = X.live })
+      (record {
+        numbered = H.present.lawful.numbered.things;
+        like = follows.like;
+        world = X.world;
+        commits = X.commits;
+        cleaned = X.cleaned;
+        live = X.live;
+      })
 
   -- What stands for the history stands for it after the step
 
-  goes_further : freed_from s (first_machine s.topology) (h ++ last ∷ []) ≡ freed_from s (first_machine s.topology) h ++ filter (lost (is_needed s.topology (at s h)) (is_needed s.topology (next s (at s h) last)) (next s (at s h) last).device.world.things) (at s h).device.world.things
-  goes_further = freed_last s (first_machine s.topology) h last ∙ ap (λ xs. freed_from s (first_machine s.topology) h ++ xs) (freed_as s (at s h) last H_after.present.lawful.numbered.things)
+  goes_further : freed_from s (first_machine s.topology) (h ++ last ∷ []) ≡ freed_from s (first_machine s.topology) h
+      ++ filter (lost (is_needed s.topology (at s h)) (is_needed s.topology (next s (at s h) last))
+      (next s (at s h) last).device.world.things) (at s h).device.world.things
+  goes_further = freed_last s (first_machine s.topology) h last ∙ ap (λ xs. freed_from s (first_machine s.topology) h ++ xs)
+      (freed_as s (at s h) last H_after.present.lawful.numbered.things)
 
   joined : (xs ys : List Thing) → map label_and_id (xs ++ ys) ≡ map label_and_id xs ++ map label_and_id ys
   joined [] ys = refl
@@ -219,15 +258,19 @@ module _ (s : Script) (h : List Step) (last : Step) (plain : IsPlainScript s) (i
 
   -- with nothing freed
   pub none_freed : (v w : Reserved (ℕ × ℕ)) (k : ℕ) → AreFreed s h v → w.items ≡ v.items → v.places + k ≤ w.places
-      → filter (lost (is_needed s.topology (at s h)) (is_needed s.topology (next s (at s h) last)) (next s (at s h) last).device.world.things) (at s h).device.world.things ≡ []
-      → length (filter (is_needed s.topology (next s (at s h) last)) (next s (at s h) last).device.world.things) ≤ length (filter (is_needed s.topology (at s h)) (at s h).device.world.things) + k
+      → filter (lost (is_needed s.topology (at s h)) (is_needed s.topology (next s (at s h) last))
+      (next s (at s h) last).device.world.things) (at s h).device.world.things ≡ []
+      → length (filter (is_needed s.topology (next s (at s h) last)) (next s (at s h) last).device.world.things)
+      ≤ length (filter (is_needed s.topology (at s h)) (at s h).device.world.things) + k
       → AreFreed s (h ++ last ∷ []) w
   none_freed v w k F items places none most = record {
-    items = items ∙ F.items ∙ ap (map label_and_id) (sym (goes_further ∙ ap (λ xs. freed_from s (first_machine s.topology) h ++ xs) none ∙ ends _));
+    items = items ∙ F.items ∙ ap (map label_and_id)
+        (sym (goes_further ∙ ap (λ xs. freed_from s (first_machine s.topology) h ++ xs) none ∙ ends _));
     places = rw (run-more s (first_machine s.topology) h last) (let few = F.places in omega (arith, few, most, places));
   }
 
-  pub quiet_freed : (v w : Reserved (ℕ × ℕ)) → AreFreed s h v → w.items ≡ v.items → v.places ≤ w.places → IsQuiet s.topology (at s h) (next s (at s h) last) → AreFreed s (h ++ last ∷ []) w
+  pub quiet_freed : (v w : Reserved (ℕ × ℕ)) → AreFreed s h v → w.items ≡ v.items → v.places ≤ w.places
+      → IsQuiet s.topology (at s h) (next s (at s h) last) → AreFreed s (h ++ last ∷ []) w
   quiet_freed v w F items places Q = none_freed v w 0 F items (omega (arith, places)) Q.none (let few = Q.fewer in omega (arith, few))
 
   pub added_freed : (v w : Reserved (ℕ × ℕ)) (client label buffer id : ℕ) → AreFreed s h v → w.items ≡ v.items → v.places + 1 ≤ w.places
@@ -235,15 +278,18 @@ module _ (s : Script) (h : List Step) (last : Step) (plain : IsPlainScript s) (i
       → AreFreed s (h ++ last ∷ []) w
   added_freed v w client label buffer id F items places Q = none_freed v w 1 F items places Q.none Q.one_more
 
-  pub told_freed : (v w : Reserved (ℕ × ℕ)) (ids : List ℕ) → AreFreed s h v → IsTold s.topology (at s h) (next s (at s h) last) ids → w.items ≡ v.items ++ freed_among s.topology (next s (at s h) last) ids
+  pub told_freed : (v w : Reserved (ℕ × ℕ)) (ids : List ℕ) → AreFreed s h v → IsTold s.topology (at s h) (next s (at s h) last) ids
+      → w.items ≡ v.items ++ freed_among s.topology (next s (at s h) last) ids
       → v.places ≡ w.places + length (freed_among s.topology (next s (at s h) last) ids) → AreFreed s (h ++ last ∷ []) w
   told_freed v w ids F T items places = record {
-    items = items ∙ ap (λ xs. xs ++ freed_among s.topology (next s (at s h) last) ids) F.items ∙ ap (λ xs. map label_and_id (freed_from s (first_machine s.topology) h) ++ xs) (sym T.told)
+    items = items ∙ ap (λ xs. xs ++ freed_among s.topology (next s (at s h) last) ids) F.items ∙ ap
+        (λ xs. map label_and_id (freed_from s (first_machine s.topology) h) ++ xs) (sym T.told)
         ∙ sym (joined (freed_from s (first_machine s.topology) h) _) ∙ ap (map label_and_id) (sym goes_further);
     places = rw (run-more s (first_machine s.topology) h last) (
         let few = F.places in
         let fewer = T.fewer in
-        let size = sym (as_long (filter (lost (is_needed s.topology (at s h)) (is_needed s.topology (next s (at s h) last)) (next s (at s h) last).device.world.things) (at s h).device.world.things)) ∙ ap length T.told in
+        let size = sym (as_long (filter (lost (is_needed s.topology (at s h)) (is_needed s.topology (next s (at s h) last))
+        (next s (at s h) last).device.world.things) (at s h).device.world.things)) ∙ ap length T.told in
         omega (arith, few, fewer, size, places));
   } where
     as_long : (xs : List Thing) → length (map label_and_id xs) ≡ length xs
@@ -253,8 +299,10 @@ module _ (s : Script) (h : List Step) (last : Step) (plain : IsPlainScript s) (i
   -- a step of a kind that frees nothing
   pub kind_quiet : may_free last ≡ false → IsQuiet s.topology (at s h) (next s (at s h) last)
   kind_quiet quiet = by_kind last quiet (changes s (at s h) last is_legal) quiet_swap quiet_needs where
-    by_kind : (last : Step) → may_free last ≡ false → Changes s (at s h) last (next s (at s h) last) → ((client : ℕ) → Commits s (at s h) (next s (at s h) last) client → IsQuiet s.topology (at s h) (next s (at s h) last))
-        → (SameNeeds (at s h) (next s (at s h) last) → IsQuiet s.topology (at s h) (next s (at s h) last)) → IsQuiet s.topology (at s h) (next s (at s h) last)
+    by_kind : (last : Step) → may_free last ≡ false → Changes s (at s h) last (next s (at s h) last)
+        → ((client : ℕ) → Commits s (at s h) (next s (at s h) last) client → IsQuiet s.topology (at s h) (next s (at s h) last))
+        → (SameNeeds (at s h) (next s (at s h) last) → IsQuiet s.topology (at s h) (next s (at s h) last))
+        → IsQuiet s.topology (at s h) (next s (at s h) last)
     by_kind (step.Swap client) e change swap needs = swap client change
     by_kind (step.Make client) e change swap needs = absurd (false≢true (sym e))
     by_kind (step.Flush k kind index) e change swap needs = absurd (false≢true (sym e))

@@ -1,5 +1,6 @@
 -- What commands free that make and close things.
-use Rattle.std.proofs.Common.{◌≡◌, ℕ, ◌+◌, ◌≤◌, List, [], ◌∷◌, ◌++◌, length, Bool, true, false, not, ◌==◌, Option, Some, None, refl, sym, ap, ◌∙◌, subst, arith, inl, inr}
+use Rattle.std.proofs.Common.{◌≡◌, ℕ, ◌+◌, ◌≤◌, List, [], ◌∷◌, ◌++◌, length, Bool, true, false, not, ◌==◌, Option, Some, None, refl, sym}
+use Rattle.std.proofs.Common.{ap, ◌∙◌, subst, arith, inl, inr}
 use Rattle.std.specs.Prelude.{if◌then◌else◌, filter}
 use Rattle.std.specs.Option.{option_map}
 use Rattle.std.proofs.lemmas.Bool.{and_parts, cases_eq, cond-false, false≢true, ne_eqb}
@@ -13,7 +14,8 @@ use Rattle.kms_model.specs.declared.worlds.Content.TheVariants as content
 use Rattle.kms_model.specs.declared.worlds.Thing.{Thing}
 use Rattle.kms_model.specs.declared.worlds.World.{World}
 use Rattle.kms_model.specs.Device.Closing.{closed_if, closed_in}
-use Rattle.kms_model.specs.Device.Execution.{BufferInfo, add_fb, buffer_of, close_refusal, close_unless, destroy_refusal, execute, is_framebuffer, make_unless, new_buffer_refusal}
+use Rattle.kms_model.specs.Device.Execution.{BufferInfo, add_fb, buffer_of, close_refusal, close_unless, destroy_refusal, execute}
+use Rattle.kms_model.specs.Device.Execution.{is_framebuffer, make_unless, new_buffer_refusal}
 use Rattle.kms_model.specs.Device.Sound.{AreNumbered}
 use Rattle.kms_model.specs.Device.States.{plane_at}
 use Rattle.kms_model.specs.Device.World.{thing_labelled, thing_with_id}
@@ -29,8 +31,10 @@ use Rattle.kms_laws.proofs.Executed.{IsLike, plane_like}
 use Rattle.kms_core.specs.Freeing.{AreRising}
 use Rattle.kms_core.specs.Stored.{held_as, held_where}
 use Rattle.kms_core.proofs.freeing.FreedLists.{filter-none, passes}
-use Rattle.kms_core.proofs.freeing.FreedBetween.{IsGrown, IsSameOrNone, fewer_needed, freed_told, grown_stay, lost, needed_framebuffer, places_suffice}
-use Rattle.kms_core.proofs.freeing.FreedSteps.{IsLonger, IsQuiet, IsTold, kept_same, live_same, longer_count, longer_grown, longer_none, needed_by, needed_same, needs_of, quiet_longer, values_same}
+use Rattle.kms_core.proofs.freeing.FreedBetween.{IsGrown, IsSameOrNone, fewer_needed, freed_told, grown_stay, lost, needed_framebuffer}
+use Rattle.kms_core.proofs.freeing.FreedBetween.{places_suffice}
+use Rattle.kms_core.proofs.freeing.FreedSteps.{IsLonger, IsQuiet, IsTold, kept_same, live_same, longer_count, longer_grown, longer_none}
+use Rattle.kms_core.proofs.freeing.FreedSteps.{needed_by, needed_same, needs_of, quiet_longer, values_same}
 
 -- A command that is no request leaves what is needed of each thing as it is, and the things in one of three ways.
 pub record IsExecuted (t : Topology) (m n : Machine) (w : World) : Type 0 where
@@ -50,17 +54,23 @@ same_test t m n w X x =
 -- as it was
 left_quiet : (t : Topology) (m n : Machine) (w : World) → IsExecuted t m n w → w.things ≡ m.device.world.things → IsQuiet t m n
 left_quiet t m n w X same =
-    quiet_longer t m n [] X.numbered (record { things = ap (λ (v : World). v.things) X.world ∙ same ∙ ends m.device.world.things; same = λ x is. same_test t m n w X x }) (λ x is. absurd is)
+    quiet_longer t m n [] X.numbered (record {
+      things = ap (λ (v : World). v.things) X.world ∙ same ∙ ends m.device.world.things;
+      same =
+          λ x is. same_test t m n w X x;
+    }) (λ x is. absurd is)
   where
     ends : (xs : List Thing) → xs ≡ xs ++ []
     ends [] = refl
     ends (x ∷ xs) = ap (λ rest. x ∷ rest) (ends xs)
 
 -- one thing more
-pushed : (t : Topology) (m n : Machine) (w : World) (u : Thing) → IsExecuted t m n w → w.things ≡ m.device.world.things ++ u ∷ [] → IsLonger t m n (u ∷ [])
+pushed : (t : Topology) (m n : Machine) (w : World) (u : Thing) → IsExecuted t m n w → w.things ≡ m.device.world.things ++ u ∷ []
+    → IsLonger t m n (u ∷ [])
 pushed t m n w u X more = record { things = ap (λ (v : World). v.things) X.world ∙ more; same = λ x is. same_test t m n w X x }
 
-pushed_quiet : (t : Topology) (m n : Machine) (w : World) (u : Thing) → IsExecuted t m n w → w.things ≡ m.device.world.things ++ u ∷ [] → is_framebuffer u.content ≡ false → IsQuiet t m n
+pushed_quiet : (t : Topology) (m n : Machine) (w : World) (u : Thing) → IsExecuted t m n w → w.things ≡ m.device.world.things ++ u ∷ []
+    → is_framebuffer u.content ≡ false → IsQuiet t m n
 pushed_quiet t m n w u X more none = quiet_longer t m n (u ∷ []) X.numbered (pushed t m n w u X more) is_none where
   is_none : (x : Thing) → IsIn x (u ∷ []) → is_framebuffer x.content ≡ false
   is_none x (inl same) = ap (λ (z : Thing). is_framebuffer z.content) (sym same) ∙ none
@@ -120,9 +130,11 @@ pushed_added t m n w client label buffer b X more found =
 
 closed_or_none : (id : ℕ) (o : Option Thing) → IsSameOrNone o (option_map (closed_if id) o)
 closed_or_none id None = refl
-closed_or_none id (Some x) = let same = closed_same id x in record { thing = closed_if id x; found = refl; label = same.label; id = same.id; content = same.content }
+closed_or_none id (Some x) = let same = closed_same id x
+    in record { thing = closed_if id x; found = refl; label = same.label; id = same.id; content = same.content }
 
-module _ (t : Topology) (m n : Machine) (w : World) (u : Thing) (X : IsExecuted t m n w) (is : w.things ≡ closed_in m.device.world.things u.id) (u_in : IsIn u m.device.world.things) where
+module _ (t : Topology) (m n : Machine) (w : World) (u : Thing) (X : IsExecuted t m n w)
+    (is : w.things ≡ closed_in m.device.world.things u.id) (u_in : IsIn u m.device.world.things) where
   now : n.device.world.things ≡ closed_in m.device.world.things u.id
   now = ap (λ (v : World). v.things) X.world ∙ is
 
@@ -130,15 +142,19 @@ module _ (t : Topology) (m n : Machine) (w : World) (u : Thing) (X : IsExecuted 
   numbered_now = subst (AreNumbered 1000) (sym now) (numbered-closed 1000 m.device.world.things u.id X.numbered)
 
   stay : (id : ℕ) → IsSameOrNone (thing_with_id m.device.world.things id) (thing_with_id n.device.world.things id)
-  stay id = subst (λ o. IsSameOrNone (thing_with_id m.device.world.things id) o) (sym (ap (λ things. thing_with_id things id) now ∙ closed_with_id m.device.world.things u.id id)) (closed_or_none u.id (thing_with_id m.device.world.things id))
+  stay id = subst (λ o. IsSameOrNone (thing_with_id m.device.world.things id) o)
+      (sym (ap (λ things. thing_with_id things id) now ∙ closed_with_id m.device.world.things u.id id))
+      (closed_or_none u.id (thing_with_id m.device.world.things id))
 
   -- another thing is as it was
   other_same : (x : Thing) → IsIn x m.device.world.things → (x.id ≡ u.id → ⊥) → thing_with_id n.device.world.things x.id ≡ Some x
   other_same x x_in apart =
-      ap (λ things. thing_with_id things x.id) now ∙ closed_with_id m.device.world.things u.id x.id ∙ ap (option_map (closed_if u.id)) (with-id 1000 m.device.world.things x X.numbered x_in)
+      ap (λ things. thing_with_id things x.id) now ∙ closed_with_id m.device.world.things u.id x.id ∙ ap (option_map (closed_if u.id))
+      (with-id 1000 m.device.world.things x X.numbered x_in)
       ∙ ap Some (cond-false (x.id == u.id) (record x { is_open = false }) x (ne_eqb x.id u.id apart))
 
-  only_this : (x : Thing) → IsIn x m.device.world.things → is_needed t m x ≡ true → passes (is_needed t n) (thing_with_id n.device.world.things x.id) ≡ false → x.id ≡ u.id
+  only_this : (x : Thing) → IsIn x m.device.world.things → is_needed t m x ≡ true
+      → passes (is_needed t n) (thing_with_id n.device.world.things x.id) ≡ false → x.id ≡ u.id
   only_this x x_in needed off =
       elim (cases_eq x.id u.id) [
         | inl same ↦ same
@@ -149,18 +165,27 @@ module _ (t : Topology) (m n : Machine) (w : World) (u : Thing) (X : IsExecuted 
   unclosed x false needed = needed
   unclosed x true needed =
       let needs = needs_of t m (record x { is_open = false }) needed in
-      needed_by t m x (record { framebuffer = needs.framebuffer; why = elim needs.why [ inl opened ↦ absurd (false≢true opened) | inr rest ↦ inr rest ] })
+      needed_by t m x (record {
+        framebuffer = needs.framebuffer;
+        why = elim needs.why
+            [ inl opened ↦ absurd (false≢true opened) | inr rest ↦ inr rest ];
+      })
 
-  back : (y : Thing) → IsIn y n.device.world.things → is_needed t n y ≡ true → passes (is_needed t m) (thing_with_id m.device.world.things y.id) ≡ true
+  back : (y : Thing) → IsIn y n.device.world.things → is_needed t n y ≡ true
+      → passes (is_needed t m) (thing_with_id m.device.world.things y.id) ≡ true
   back y y_in needed =
-      let found = sym (closed_with_id m.device.world.things u.id y.id) ∙ ap (λ things. thing_with_id things y.id) (sym now) ∙ with-id 1000 n.device.world.things y numbered_now y_in in
+      let found = sym (closed_with_id m.device.world.things u.id y.id) ∙ ap (λ things. thing_with_id things y.id) (sym now) ∙ with-id 1000
+      n.device.world.things y numbered_now y_in in
       at (thing_with_id m.device.world.things y.id) found
     where
       at : (o : Option Thing) → option_map (closed_if u.id) o ≡ Some y → passes (is_needed t m) o ≡ true
       at None e = absurd cc
-      at (Some x) e = (let same : closed_if u.id x ≡ y = cc in unclosed x (x.id == u.id) (ap (is_needed t m) same ∙ sym (same_test t m n w X y) ∙ needed))
+      at (Some x) e = (let same : closed_if u.id x ≡ y = cc
+          in unclosed x (x.id == u.id) (ap (is_needed t m) same ∙ sym (same_test t m n w X y) ∙ needed))
 
-  fewer : length (filter (is_needed t n) n.device.world.things) + length (filter (lost (is_needed t m) (is_needed t n) n.device.world.things) m.device.world.things) ≤ length (filter (is_needed t m) m.device.world.things)
+  fewer : length (filter (is_needed t n) n.device.world.things)
+      + length (filter (lost (is_needed t m) (is_needed t n) n.device.world.things) m.device.world.things)
+      ≤ length (filter (is_needed t m) m.device.world.things)
   fewer = fewer_needed (is_needed t m) (is_needed t n) m.device.world.things n.device.world.things X.numbered numbered_now back
 
   pub closed_grown : IsGrown t m n
@@ -176,10 +201,12 @@ module _ (t : Topology) (m n : Machine) (w : World) (u : Thing) (X : IsExecuted 
     rising : AreRising 0 (u.id ∷ [])
     rising = (omega arith, tt)
 
-    needed : (id : ℕ) → IsIn id (u.id ∷ []) → (x : Thing) → thing_with_id m.device.world.things id ≡ Some x → is_framebuffer x.content ≡ true → is_needed t m x ≡ true
+    needed : (id : ℕ) → IsIn id (u.id ∷ []) → (x : Thing) → thing_with_id m.device.world.things id ≡ Some x → is_framebuffer x.content
+        ≡ true → is_needed t m x ≡ true
     needed id (inr rest) x found framebuffer = absurd rest
     needed id (inl same) x found framebuffer =
-        let one : Some x ≡ Some u = sym found ∙ ap (thing_with_id m.device.world.things) (sym same) ∙ with-id 1000 m.device.world.things u X.numbered u_in in
+        let one : Some x ≡ Some u = sym found ∙ ap (thing_with_id m.device.world.things) (sym same) ∙ with-id 1000 m.device.world.things u
+        X.numbered u_in in
         let is_u : x ≡ u = cc in
         needed_by t m x (record { framebuffer = framebuffer; why = inl (ap (λ (z : Thing). z.is_open) is_u ∙ opened) })
 
@@ -201,7 +228,8 @@ module _ (t : Topology) (m n : Machine) (w : World) (u : Thing) (X : IsExecuted 
         by_lost true e =
             let both = and_parts (is_needed t m x) _ e in
             let same = only_this x x_in both.0 (off _ both.1) in
-            let one : Some x ≡ Some u = sym (with-id 1000 m.device.world.things x X.numbered x_in) ∙ ap (thing_with_id m.device.world.things) same ∙ with-id 1000 m.device.world.things u X.numbered u_in in
+            let one : Some x ≡ Some u = sym (with-id 1000 m.device.world.things x X.numbered x_in) ∙ ap
+            (thing_with_id m.device.world.things) same ∙ with-id 1000 m.device.world.things u X.numbered u_in in
             let is_u : x ≡ u = cc in
             absurd (false≢true (sym none ∙ ap (λ (z : Thing). is_framebuffer z.content) (sym is_u) ∙ (needs_of t m x both.0).framebuffer))
 
@@ -251,8 +279,10 @@ MadeFrees t m n client (command.CloseFb label) reply.Done = IsClosed t m n clien
 MadeFrees t m n client _ _ = IsQuiet t m n
 
 module _ (t : Topology) (m n : Machine) where
-  unless : (owner label : ℕ) (c : Content) (o : Option ℕ) → is_framebuffer c ≡ false → IsExecuted t m n (make_unless m.device.world owner label c o).world → IsQuiet t m n
-  unless owner label c None none X = pushed_quiet t m n _ (record { label = label; id = m.device.world.next_id; owner = owner; content = c; is_open = true }) X refl none
+  unless : (owner label : ℕ) (c : Content) (o : Option ℕ) → is_framebuffer c ≡ false
+      → IsExecuted t m n (make_unless m.device.world owner label c o).world → IsQuiet t m n
+  unless owner label c None none X = pushed_quiet t m n _
+      (record { label = label; id = m.device.world.next_id; owner = owner; content = c; is_open = true }) X refl none
   unless owner label c (Some k) none X = left_quiet t m n _ X refl
 
   adds : (client label buffer : ℕ) (o : Option BufferInfo) → buffer_of m.device.world.things client buffer ≡ o
@@ -271,7 +301,8 @@ module _ (t : Topology) (m n : Machine) where
     by_content content.Fence e = refl
     by_content content.OutFence e = refl
 
-  destroys : (client label : ℕ) (o : Option Thing) → thing_labelled m.device.world.things label ≡ o → (r : Option ℕ) → destroy_refusal client o ≡ r → IsExecuted t m n (close_unless m.device.world o r).world → IsQuiet t m n
+  destroys : (client label : ℕ) (o : Option Thing) → thing_labelled m.device.world.things label ≡ o → (r : Option ℕ)
+      → destroy_refusal client o ≡ r → IsExecuted t m n (close_unless m.device.world o r).world → IsQuiet t m n
   destroys client label o found (Some k) refusal X = left_quiet t m n _ X refl
   destroys client label None found None refusal X = left_quiet t m n _ X refl
   destroys client label (Some u) found None refusal X =
@@ -288,7 +319,8 @@ module _ (t : Topology) (m n : Machine) where
     by_content content.Fence b e = absurd cc
     by_content content.OutFence b e = absurd cc
 
-  closes : (client label : ℕ) (o : Option Thing) → thing_labelled m.device.world.things label ≡ o → (r : Option ℕ) → close_refusal client o ≡ r → IsExecuted t m n (close_unless m.device.world o r).world
+  closes : (client label : ℕ) (o : Option Thing) → thing_labelled m.device.world.things label ≡ o → (r : Option ℕ) → close_refusal client o
+      ≡ r → IsExecuted t m n (close_unless m.device.world o r).world
       → MadeFrees t m n client (command.CloseFb label) (close_unless m.device.world o r).reply
   closes client label o found (Some k) refusal X = left_quiet t m n _ X refl
   closes client label None found None refusal X = absurd cc
@@ -299,7 +331,8 @@ module _ (t : Topology) (m n : Machine) where
         may = refusal;
         shut = ap (λ (w : World). w.things) X.world;
         now = closed_if u.id u;
-        found = ap (λ (w : World). thing_labelled w.things label) X.world ∙ closed_labelled m.device.world.things u.id label ∙ ap (option_map (closed_if u.id)) found;
+        found = ap (λ (w : World). thing_labelled w.things label) X.world ∙ closed_labelled m.device.world.things u.id label ∙ ap
+            (option_map (closed_if u.id)) found;
         same_id = same_id (u.id == u.id);
         told = closed_told t m n _ u X refl (find-in (λ x. x.label == label) m.device.world.things u found) (open_only client u refusal);
         grown = closed_grown t m n _ u X refl (find-in (λ x. x.label == label) m.device.world.things u found);
@@ -312,12 +345,15 @@ module _ (t : Topology) (m n : Machine) where
   pub made_frees : (client : ℕ) (c : Command) → is_making c ≡ true → IsExecuted t m n (execute t m.device.world client c).world
       → MadeFrees t m n client c (execute t m.device.world client c).reply
   unfolding execute
-  made_frees client (command.Buffer label width height format pattern) making X = unless client label (content.Buffer width height format pattern) (new_buffer_refusal m.device.world.things width height format) refl X
+  made_frees client (command.Buffer label width height format pattern) making X = unless client label
+      (content.Buffer width height format pattern) (new_buffer_refusal m.device.world.things width height format) refl X
   made_frees client (command.AddFb label buffer) making X = adds client label buffer (buffer_of m.device.world.things client buffer) refl X
   made_frees client (command.Mode label mode) making X = unless client label (content.Mode mode) None refl X
   made_frees client (command.Blob label bytes) making X = unless client label (content.Blob bytes) None refl X
-  made_frees client (command.Destroy label) making X = destroys client label (thing_labelled m.device.world.things label) refl (destroy_refusal client (thing_labelled m.device.world.things label)) refl X
-  made_frees client (command.CloseFb label) making X = closes client label (thing_labelled m.device.world.things label) refl (close_refusal client (thing_labelled m.device.world.things label)) refl X
+  made_frees client (command.Destroy label) making X = destroys client label (thing_labelled m.device.world.things label) refl
+      (destroy_refusal client (thing_labelled m.device.world.things label)) refl X
+  made_frees client (command.CloseFb label) making X = closes client label (thing_labelled m.device.world.things label) refl
+      (close_refusal client (thing_labelled m.device.world.things label)) refl X
   made_frees client (command.Fence label) making X = unless client label content.Fence None refl X
   made_frees client (command.Signal label) making X = absurd cc
   made_frees client (command.Atomic r) making X = absurd cc

@@ -1,8 +1,10 @@
 -- What each kind of step frees.
-use Rattle.std.proofs.Common.{◌≡◌, ℕ, suc, ◌+◌, ◌<◌, ◌≤◌, List, [], ◌∷◌, ◌++◌, length, map, Bool, true, false, not, ◌&&◌, ◌||◌, ◌==◌, Option, Some, None, refl, sym, ap, ◌∙◌, subst, arith, inl, inr, ◌⊎◌}
+use Rattle.std.proofs.Common.{◌≡◌, ℕ, suc, ◌+◌, ◌<◌, ◌≤◌, List, [], ◌∷◌, ◌++◌, length, map, Bool, true, false, not, ◌&&◌, ◌||◌, ◌==◌}
+use Rattle.std.proofs.Common.{Option, Some, None, refl, sym, ap, ◌∙◌, subst, arith, inl, inr, ◌⊎◌}
 use Rattle.std.specs.Prelude.{filter, if◌then◌else◌}
 use Rattle.std.specs.List.{list_any, range_with_len}
-use Rattle.std.proofs.lemmas.Bool.{and_from, and_parts, cases_Bool, cases_eq, cond-false, cond-true, eq-eqb, eqb-true, false≢true, ne_eqb, not-true, or_cases, or_from, or_left, or_parts, or_right}
+use Rattle.std.proofs.lemmas.Bool.{and_from, and_parts, cases_Bool, cases_eq, cond-false, cond-true, eq-eqb, eqb-true, false≢true, ne_eqb}
+use Rattle.std.proofs.lemmas.Bool.{not-true, or_cases, or_from, or_left, or_parts, or_right}
 use Rattle.kms_model.specs.declared.objects.Kind.TheVariants.{Crtc, Plane}
 use Rattle.kms_model.specs.declared.objects.Topology.{Topology}
 use Rattle.kms_model.specs.declared.replies.Step.{Step}
@@ -38,31 +40,39 @@ use Rattle.kms_laws.proofs.Headlines.{range-in}
 use Rattle.kms_core.specs.Freeing.{AreAllOf, AreRising, freed_among, is_framebuffer_in, label_and_id}
 use Rattle.kms_core.specs.Stored.{held_as, held_where}
 use Rattle.kms_core.proofs.freeing.FreedLists.{filter-none, length-fewer, passes}
-use Rattle.kms_core.proofs.freeing.FreedBetween.{IsGrown, IsGrownAt, IsSameOrNone, fewer_needed, freed_told, lost, needed_framebuffer, places_suffice, same_or_none}
+use Rattle.kms_core.proofs.freeing.FreedBetween.{IsGrown, IsGrownAt, IsSameOrNone, fewer_needed, freed_told, lost, needed_framebuffer}
+use Rattle.kms_core.proofs.freeing.FreedBetween.{places_suffice, same_or_none}
 
 -- What is needed is told by four parts of a machine.
 
-pub live_same : (t : Topology) (m n : Machine) (id : ℕ) → n.device.live ≡ m.device.live → live_names t n.device id ≡ live_names t m.device id
+pub live_same : (t : Topology) (m n : Machine) (id : ℕ) → n.device.live ≡ m.device.live → live_names t n.device id
+    ≡ live_names t m.device id
 unfolding live_names
 live_same t m n id same = ap (λ (live : Registers). list_any (λ crtc. picture_names id (decoded_picture t live crtc)) (ids_of t Crtc)) same
 
 kept_of : Topology → List Commit → List ℕ → ℕ → Bool
 kept_of t cs cleaned id =
-    list_any (λ k. not (has_number cleaned k) && list_any (λ plane. commit_touches t cs k plane && (is_fb id (old_plane t cs k plane).fb || is_fb id (new_plane t cs k plane).fb)) (ids_of t Plane)) (range_with_len 0 (length cs))
+    list_any (λ k. not (has_number cleaned k) && list_any
+    (λ plane. commit_touches t cs k plane && (is_fb id (old_plane t cs k plane).fb || is_fb id (new_plane t cs k plane).fb))
+    (ids_of t Plane)) (range_with_len 0 (length cs))
 
 kept_is : (t : Topology) (m : Machine) (id : ℕ) → commits_keep t m id ≡ kept_of t m.device.commits m.device.marks.cleaned id
 unfolding commit_keeps kept_of
 kept_is t m id = refl
 
-pub kept_same : (t : Topology) (m n : Machine) (id : ℕ) → n.device.commits ≡ m.device.commits → n.device.marks.cleaned ≡ m.device.marks.cleaned → commits_keep t n id ≡ commits_keep t m id
+pub kept_same : (t : Topology) (m n : Machine) (id : ℕ) → n.device.commits ≡ m.device.commits → n.device.marks.cleaned
+    ≡ m.device.marks.cleaned → commits_keep t n id ≡ commits_keep t m id
 kept_same t m n id commits cleaned = kept_is t n id ∙ (λ i. kept_of t (commits i) (cleaned i) id) ∙ sym (kept_is t m id)
 
-pub needed_same : (t : Topology) (m n : Machine) (x : Thing) → values_name t n.device x.id ≡ values_name t m.device x.id → live_names t n.device x.id ≡ live_names t m.device x.id → commits_keep t n x.id ≡ commits_keep t m x.id
+pub needed_same : (t : Topology) (m n : Machine) (x : Thing) → values_name t n.device x.id ≡ values_name t m.device x.id
+    → live_names t n.device x.id ≡ live_names t m.device x.id → commits_keep t n x.id ≡ commits_keep t m x.id
     → is_needed t n x ≡ is_needed t m x
 unfolding is_needed
 needed_same t m n x values live kept = λ i. is_framebuffer x.content && (x.is_open || (values i || (live i || kept i)))
 
-pub values_same : (t : Topology) (m n : Machine) (id : ℕ) → ((p : ℕ) → IsIn p (ids_of t Plane) → plane_at n.device.world.things n.device.world.values p ≡ plane_at m.device.world.things m.device.world.values p)
+pub values_same : (t : Topology) (m n : Machine) (id : ℕ)
+    → ((p : ℕ) → IsIn p (ids_of t Plane) → plane_at n.device.world.things n.device.world.values p
+    ≡ plane_at m.device.world.things m.device.world.values p)
     → values_name t n.device id ≡ values_name t m.device id
 unfolding values_name
 values_same t m n id same = list_any-same _ _ (ids_of t Plane) (λ p is. ap (λ (state : _). is_fb id state.fb) (same p is))
@@ -87,8 +97,10 @@ with_id_longer : (xs more : List Thing) (id : ℕ) (x : Thing) → thing_with_id
 with_id_longer [] more id x found = absurd cc
 with_id_longer (u ∷ us) more id x found =
     elim (cases_Bool (u.id == id)) [
-      | inl here ↦ cond-true (u.id == id) (Some u) (thing_with_id (us ++ more) id) here ∙ sym (cond-true (u.id == id) (Some u) (thing_with_id us id) here) ∙ found
-      | inr away ↦ cond-false (u.id == id) (Some u) (thing_with_id (us ++ more) id) away ∙ with_id_longer us more id x (sym (cond-false (u.id == id) (Some u) (thing_with_id us id) away) ∙ found)
+      | inl here ↦ cond-true (u.id == id) (Some u) (thing_with_id (us ++ more) id) here ∙ sym
+          (cond-true (u.id == id) (Some u) (thing_with_id us id) here) ∙ found
+      | inr away ↦ cond-false (u.id == id) (Some u) (thing_with_id (us ++ more) id) away ∙ with_id_longer us more id x
+          (sym (cond-false (u.id == id) (Some u) (thing_with_id us id) away) ∙ found)
     ]
 
 with_id_none : (xs more : List Thing) (id : ℕ) → thing_with_id xs id ≡ None → thing_with_id (xs ++ more) id ≡ thing_with_id more id
@@ -100,15 +112,22 @@ with_id_none (u ∷ us) more id none =
           ∙ with_id_none us more id (sym (cond-false (u.id == id) (Some u) (thing_with_id us id) away) ∙ none)
     ]
 
-pub filter-longer : {A : Type 0} (p : A → Bool) (xs more : List A) → length (filter p (xs ++ more)) ≡ length (filter p xs) + length (filter p more)
+pub filter-longer : {A : Type 0} (p : A → Bool) (xs more : List A) → length (filter p (xs ++ more)) ≡ length (filter p xs)
+    + length (filter p more)
 filter-longer p [] more = omega arith
 filter-longer p (x ∷ xs) more =
-    elim (cases_Bool (p x)) [ inl yes_p ↦ rw yes_p (let rest = filter-longer p xs more in omega (arith, rest)) | inr no_p ↦ rw no_p (filter-longer p xs more) ]
+    elim (cases_Bool (p x)) [
+      | inl yes_p ↦ rw yes_p (let rest = filter-longer p xs more in omega (arith, rest))
+      | inr no_p ↦ rw no_p
+          (filter-longer p xs more)
+    ]
 
-pub longer_none : (t : Topology) (m n : Machine) (more : List Thing) → AreNumbered 1000 m.device.world.things → IsLonger t m n more → filter (lost (is_needed t m) (is_needed t n) n.device.world.things) m.device.world.things ≡ []
+pub longer_none : (t : Topology) (m n : Machine) (more : List Thing) → AreNumbered 1000 m.device.world.things → IsLonger t m n more
+    → filter (lost (is_needed t m) (is_needed t n) n.device.world.things) m.device.world.things ≡ []
 longer_none t m n more numbered L =
     filter-none _ m.device.world.things (λ x is.
-    let found = ap (λ things. thing_with_id things x.id) L.things ∙ with_id_longer m.device.world.things more x.id x (with-id 1000 m.device.world.things x numbered is) in
+    let found = ap (λ things. thing_with_id things x.id) L.things ∙ with_id_longer m.device.world.things more x.id x
+    (with-id 1000 m.device.world.things x numbered is) in
     rw (found, L.same x is) (never (is_needed t m x)))
   where
     never : (b : Bool) → (b && not b) ≡ false
@@ -116,7 +135,8 @@ longer_none t m n more numbered L =
     never false = refl
 
 pub longer_count : (t : Topology) (m n : Machine) (more : List Thing) → IsLonger t m n more
-    → length (filter (is_needed t n) n.device.world.things) ≤ length (filter (is_needed t m) m.device.world.things) + length (filter (is_needed t n) more)
+    → length (filter (is_needed t n) n.device.world.things) ≤ length (filter (is_needed t m) m.device.world.things)
+    + length (filter (is_needed t n) more)
 longer_count t m n more L =
     let parts = ap (λ things. length (filter (is_needed t n) things)) L.things ∙ filter-longer (is_needed t n) m.device.world.things more in
     let old = length-fewer (is_needed t m) (is_needed t n) m.device.world.things (λ x is e. sym (L.same x is) ∙ e) in
@@ -158,7 +178,8 @@ module _ (t : Topology) (m n : Machine) (more : List Thing) (L : IsLonger t m n 
         ap (held_where (is_needed t n)) (longer_old id x found)
         ∙ ap (λ b. if b then held_as x x.content else None) (L.same x (find-in (λ (u : Thing). u.id == id) m.device.world.things x found))
 
-pub quiet_longer : (t : Topology) (m n : Machine) (more : List Thing) → AreNumbered 1000 m.device.world.things → IsLonger t m n more → ((x : Thing) → IsIn x more → is_framebuffer x.content ≡ false) → IsQuiet t m n
+pub quiet_longer : (t : Topology) (m n : Machine) (more : List Thing) → AreNumbered 1000 m.device.world.things → IsLonger t m n more
+    → ((x : Thing) → IsIn x more → is_framebuffer x.content ≡ false) → IsQuiet t m n
 unfolding is_needed
 quiet_longer t m n more numbered L none =
     let count = longer_count t m n more L in
@@ -182,7 +203,8 @@ quiet_same t m n numbered S =
     quiet_longer t m n [] numbered
     (record {
       things = ap (λ (w : World). w.things) S.world ∙ sym (no_more m.device.world.things);
-      same = λ x is. needed_same t m n x (values_same t m n x.id (λ p of. ap (λ (w : World). plane_at w.things w.values p) S.world)) (live_same t m n x.id S.live) (kept_same t m n x.id S.commits S.cleaned);
+      same = λ x is. needed_same t m n x (values_same t m n x.id (λ p of. ap (λ (w : World). plane_at w.things w.values p) S.world))
+          (live_same t m n x.id S.live) (kept_same t m n x.id S.commits S.cleaned);
     })
     (λ x is. absurd is)
   where
@@ -192,14 +214,18 @@ quiet_same t m n numbered S =
 
 abbrev StaysFree : Script → Machine → Step → Thing → Type 0
 StaysFree s m step thing = is_framebuffer thing.content ≡ true → is_needed s.topology m thing ≡ false
-    → (later : Thing) → thing_with_id (next s m step).device.world.things thing.id ≡ Some later → is_needed s.topology (next s m step) later ≡ false
+    → (later : Thing) → thing_with_id (next s m step).device.world.things thing.id ≡ Some later → is_needed s.topology (next s m step) later
+    ≡ false
 
-pub stays : (s : Script) (h : List Step) (step : Step) → IsPlainScript s → is_history s h ≡ true → legal s (at s h) step ≡ true → (x y : Thing) → IsIn x (at s h).device.world.things → is_framebuffer x.content ≡ true
-    → thing_with_id (next s (at s h) step).device.world.things x.id ≡ Some y → is_needed s.topology (next s (at s h) step) y ≡ true → is_needed s.topology (at s h) x ≡ true
+pub stays : (s : Script) (h : List Step) (step : Step) → IsPlainScript s → is_history s h ≡ true → legal s (at s h) step ≡ true
+    → (x y : Thing) → IsIn x (at s h).device.world.things → is_framebuffer x.content ≡ true
+    → thing_with_id (next s (at s h) step).device.world.things x.id ≡ Some y → is_needed s.topology (next s (at s h) step) y ≡ true
+    → is_needed s.topology (at s h) x ≡ true
 stays s h step plain is legal_step x y x_in framebuffer found needed =
     elim (cases_Bool (is_needed s.topology (at s h) x)) [
       | inl was ↦ was
-      | inr unneeded ↦ absurd (false≢true (sym (all_in (StaysFree s (at s h) step) (at s h).device.world.things x (framebuffers_once s h plain is step legal_step) x_in framebuffer unneeded y found) ∙ needed))
+      | inr unneeded ↦ absurd (false≢true (sym (all_in (StaysFree s (at s h) step) (at s h).device.world.things x
+          (framebuffers_once s h plain is step legal_step) x_in framebuffer unneeded y found) ∙ needed))
     ]
 
 -- A cleanup
@@ -214,16 +240,21 @@ all_of ids test A id holds =
 
 -- what the freed of a step are told by
 pub record IsTold (t : Topology) (m n : Machine) (ids : List ℕ) : Type 0 where
-  pub told : map label_and_id (filter (lost (is_needed t m) (is_needed t n) n.device.world.things) m.device.world.things) ≡ freed_among t n ids
-  pub room : length (filter (λ id. is_framebuffer_in (thing_with_id n.device.world.things id)) ids) ≤ length (filter (is_needed t m) m.device.world.things)
-  pub fewer : length (filter (is_needed t n) n.device.world.things) + length (filter (lost (is_needed t m) (is_needed t n) n.device.world.things) m.device.world.things) ≤ length (filter (is_needed t m) m.device.world.things)
+  pub told : map label_and_id (filter (lost (is_needed t m) (is_needed t n) n.device.world.things) m.device.world.things)
+      ≡ freed_among t n ids
+  pub room : length (filter (λ id. is_framebuffer_in (thing_with_id n.device.world.things id)) ids)
+      ≤ length (filter (is_needed t m) m.device.world.things)
+  pub fewer : length (filter (is_needed t n) n.device.world.things)
+      + length (filter (lost (is_needed t m) (is_needed t n) n.device.world.things) m.device.world.things)
+      ≤ length (filter (is_needed t m) m.device.world.things)
   pub back : (y : Thing) → IsIn y n.device.world.things → is_needed t n y ≡ true
       → passes (is_needed t m) (thing_with_id m.device.world.things y.id) ≡ true
 
 -- the parts of what is needed, of a thing
 pub record Needs (t : Topology) (m : Machine) (x : Thing) : Type 0 where
   pub framebuffer : is_framebuffer x.content ≡ true
-  pub why : (x.is_open ≡ true) ⊎ ((values_name t m.device x.id ≡ true) ⊎ ((live_names t m.device x.id ≡ true) ⊎ (commits_keep t m x.id ≡ true)))
+  pub why : (x.is_open ≡ true) ⊎ ((values_name t m.device x.id ≡ true)
+      ⊎ ((live_names t m.device x.id ≡ true) ⊎ (commits_keep t m x.id ≡ true)))
 
 pub needs_of : (t : Topology) (m : Machine) (x : Thing) → is_needed t m x ≡ true → Needs t m x
 unfolding is_needed
@@ -253,17 +284,22 @@ needed_by t m x needs = and_from (is_framebuffer x.content) _ needs.framebuffer 
   ])
 ])
 
-pub keeps_some : (t : Topology) (m : Machine) (id : ℕ) → commits_keep t m id ≡ true → (k : ℕ) × ((IsIn k (commit_numbers m)) × ((is_cleaned m.device k ≡ false) × (commit_keeps t m.device id k ≡ true)))
+pub keeps_some : (t : Topology) (m : Machine) (id : ℕ) → commits_keep t m id ≡ true → (k : ℕ)
+    × ((IsIn k (commit_numbers m)) × ((is_cleaned m.device k ≡ false) × (commit_keeps t m.device id k ≡ true)))
 keeps_some t m id kept =
     let found = list_any-some (λ k. not (is_cleaned m.device k) && commit_keeps t m.device id k) (commit_numbers m) kept in
     let both = and_parts (not (is_cleaned m.device found.item)) _ found.holds in
     (found.item, (found.is_in, (not-true (is_cleaned m.device found.item) both.0, both.1)))
 
-pub keeps_by : (t : Topology) (m : Machine) (id k : ℕ) → IsIn k (commit_numbers m) → is_cleaned m.device k ≡ false → commit_keeps t m.device id k ≡ true → commits_keep t m id ≡ true
-keeps_by t m id k is unclean keeps = list_any-has (λ k. not (is_cleaned m.device k) && commit_keeps t m.device id k) (commit_numbers m) k is (and_from _ _ (ap not unclean) keeps)
+pub keeps_by : (t : Topology) (m : Machine) (id k : ℕ) → IsIn k (commit_numbers m) → is_cleaned m.device k ≡ false
+    → commit_keeps t m.device id k ≡ true → commits_keep t m id ≡ true
+keeps_by t m id k is unclean keeps = list_any-has (λ k. not (is_cleaned m.device k) && commit_keeps t m.device id k) (commit_numbers m) k is
+    (and_from _ _ (ap not unclean) keeps)
 
 -- where no thing changes, and what is needed after was needed before
-module _ (t : Topology) (m n : Machine) (numbered : AreNumbered 1000 m.device.world.things) (same : n.device.world.things ≡ m.device.world.things) (back : (x : Thing) → IsIn x m.device.world.things → is_needed t n x ≡ true → is_needed t m x ≡ true) where
+module _ (t : Topology) (m n : Machine) (numbered : AreNumbered 1000 m.device.world.things)
+    (same : n.device.world.things ≡ m.device.world.things)
+    (back : (x : Thing) → IsIn x m.device.world.things → is_needed t n x ≡ true → is_needed t m x ≡ true) where
   found_now : (x : Thing) → IsIn x m.device.world.things → thing_with_id n.device.world.things x.id ≡ Some x
   found_now x is = ap (λ things. thing_with_id things x.id) same ∙ with-id 1000 m.device.world.things x numbered is
 
@@ -280,10 +316,14 @@ module _ (t : Topology) (m n : Machine) (numbered : AreNumbered 1000 m.device.wo
       → ((id : ℕ) → IsIn id ids → (x : Thing) → x.id ≡ id → is_framebuffer x.content ≡ true → is_needed t m x ≡ true)
       → ((x : Thing) → is_needed t m x ≡ true → is_needed t n x ≡ false → IsIn x.id ids) → IsTold t m n ids
   told_by ids rising each all = record {
-    told = freed_told t m n numbered numbered_now (λ id. subst (λ things. IsSameOrNone (thing_with_id m.device.world.things id) (thing_with_id things id)) (sym same) (same_or_none (thing_with_id m.device.world.things id)))
+    told = freed_told t m n numbered numbered_now
+        (λ id. subst (λ things. IsSameOrNone (thing_with_id m.device.world.things id) (thing_with_id things id)) (sym same)
+        (same_or_none (thing_with_id m.device.world.things id)))
         ids rising (λ id is x found framebuffer. each id is x (find-same m.device.world.things id x found) framebuffer)
         (λ x is needed off. all x needed (sym (ap (passes (is_needed t n)) (found_now x is)) ∙ off));
-    room = places_suffice t m n numbered numbered_now (λ id. subst (λ things. IsSameOrNone (thing_with_id m.device.world.things id) (thing_with_id things id)) (sym same) (same_or_none (thing_with_id m.device.world.things id)))
+    room = places_suffice t m n numbered numbered_now
+        (λ id. subst (λ things. IsSameOrNone (thing_with_id m.device.world.things id) (thing_with_id things id)) (sym same)
+        (same_or_none (thing_with_id m.device.world.things id)))
         ids rising (λ id is x found framebuffer. each id is x (find-same m.device.world.things id x found) framebuffer);
     fewer = fewer_needed (is_needed t m) (is_needed t n) m.device.world.things n.device.world.things numbered numbered_now was_needed;
     back = was_needed;
@@ -305,14 +345,22 @@ cleaned_live : (t : Topology) (m : Machine) (k id : ℕ) → live_names t (clean
 unfolding live_names
 cleaned_live t m k id = refl
 
-pub cleanup_told : (t : Topology) (m : Machine) (k : ℕ) (ids : List ℕ) → AreNumbered 1000 m.device.world.things → k < length m.device.commits → is_cleaned m.device k ≡ false → AreAllOf ids (λ id. commit_keeps t m.device id k)
+pub cleanup_told : (t : Topology) (m : Machine) (k : ℕ) (ids : List ℕ) → AreNumbered 1000 m.device.world.things → k
+    < length m.device.commits → is_cleaned m.device k ≡ false → AreAllOf ids (λ id. commit_keeps t m.device id k)
     → IsTold t m (cleaned_as m k) ids
 cleanup_told t m k ids numbered within unclean A =
     told_by t m (cleaned_as m k) numbered refl back ids A.rising
-    (λ id is x own framebuffer. needed_by t m x (record { framebuffer = framebuffer; why = inr (inr (inr (keeps_by t m x.id k (range-in 0 (length m.device.commits) k (omega arith) (omega (arith, within))) unclean (subst (λ z. commit_keeps t m.device z k ≡ true) (sym own) (each_of ids _ A id is))))) }))
+    (λ id is x own framebuffer. needed_by t m x (record {
+      framebuffer = framebuffer;
+      why = inr (inr
+          (inr (keeps_by t m x.id k (range-in 0 (length m.device.commits) k (omega arith) (omega (arith, within))) unclean
+          (subst (λ z. commit_keeps t m.device z k ≡ true) (sym own) (each_of ids _ A id is)))));
+    }))
     (λ x needed off.
     let needs = needs_of t m x needed in
-    let no = λ (w : (x.is_open ≡ true) ⊎ ((values_name t (cleaned_as m k).device x.id ≡ true) ⊎ ((live_names t (cleaned_as m k).device x.id ≡ true) ⊎ (commits_keep t (cleaned_as m k) x.id ≡ true)))). false≢true (sym off ∙ needed_by t (cleaned_as m k) x (record { framebuffer = needs.framebuffer; why = w })) in
+    let no = λ (w : (x.is_open ≡ true) ⊎ ((values_name t (cleaned_as m k).device x.id ≡ true)
+    ⊎ ((live_names t (cleaned_as m k).device x.id ≡ true) ⊎ (commits_keep t (cleaned_as m k) x.id ≡ true)))). false≢true
+    (sym off ∙ needed_by t (cleaned_as m k) x (record { framebuffer = needs.framebuffer; why = w })) in
     elim needs.why [
       | inl opened ↦ absurd (no (inl opened))
       | inr rest ↦ elim rest [
@@ -342,7 +390,8 @@ cleanup_told t m k ids numbered within unclean A =
               | inr rest ↦ inr (elim rest [
                 | inl live ↦ inl (sym (cleaned_live t m k x.id) ∙ live)
                 | inr kept ↦ inr (let found = keeps_some t (cleaned_as m k) x.id kept in
-                    keeps_by t m x.id found.0 found.1.0 (or_parts (k == found.0) _ found.1.1.0).1 (sym (cleaned_keeps t m k x.id found.0) ∙ found.1.1.1))
+                    keeps_by t m x.id found.0 found.1.0 (or_parts (k == found.0) _ found.1.1.0).1
+                    (sym (cleaned_keeps t m k x.id found.0) ∙ found.1.1.1))
               ])
             ])
           ];
@@ -372,12 +421,17 @@ one_extended xs ys u none E = record { more = u ∷ E.more; same = E.same ∙ jo
   both x (inl same) = ap (λ (z : Thing). is_framebuffer z.content) (sym same) ∙ none
   both x (inr rest) = E.none x rest
 
-fences_extend : (client : ℕ) (assigns : List Assign) (w : World) (crtcs : List ℕ) → IsExtended w.things (make_out_fences client assigns w crtcs).things
+fences_extend : (client : ℕ) (assigns : List Assign) (w : World) (crtcs : List ℕ)
+    → IsExtended w.things (make_out_fences client assigns w crtcs).things
 fences_extend client assigns w [] = same_extended w.things
-fences_extend client assigns w (crtc ∷ crtcs) = by_label (out_fence_label assigns crtc) (fences_extend client assigns (make_out_fence client w (out_fence_label assigns crtc)) crtcs) where
-  by_label : (o : Option ℕ) → IsExtended (make_out_fence client w o).things (make_out_fences client assigns (make_out_fence client w o) crtcs).things → IsExtended w.things (make_out_fences client assigns (make_out_fence client w o) crtcs).things
-  by_label None rest = rest
-  by_label (Some label) rest = one_extended w.things _ (record { label = label; id = w.next_id; owner = client; content = content.OutFence; is_open = true }) refl rest
+fences_extend client assigns w (crtc ∷ crtcs) = by_label (out_fence_label assigns crtc)
+    (fences_extend client assigns (make_out_fence client w (out_fence_label assigns crtc)) crtcs) where
+      by_label : (o : Option ℕ) → IsExtended (make_out_fence client w o).things
+          (make_out_fences client assigns (make_out_fence client w o) crtcs).things
+          → IsExtended w.things (make_out_fences client assigns (make_out_fence client w o) crtcs).things
+      by_label None rest = rest
+      by_label (Some label) rest = one_extended w.things _
+          (record { label = label; id = w.next_id; owner = client; content = content.OutFence; is_open = true }) refl rest
 
 pub bool_same : (a b : Bool) → (a ≡ true → b ≡ true) → (b ≡ true → a ≡ true) → a ≡ b
 bool_same true b there back = sym (there refl)
@@ -397,31 +451,40 @@ pub names_alike : (id : ℕ) (p q : PlaneState) → 1 ≤ id → plane_words p �
 names_alike id p q some same names =
     word_named id q.fb some (sym (word_fb q) ∙ ap (λ (w : PlaneWords). w.fb) (sym same) ∙ word_fb p ∙ named_word id p.fb names)
 
-pub values_some : (t : Topology) (d : DeviceState) (id : ℕ) → values_name t d id ≡ true → (p : ℕ) × (IsIn p (ids_of t Plane) × (is_fb id (plane_at d.world.things d.world.values p).fb ≡ true))
+pub values_some : (t : Topology) (d : DeviceState) (id : ℕ) → values_name t d id ≡ true → (p : ℕ)
+    × (IsIn p (ids_of t Plane) × (is_fb id (plane_at d.world.things d.world.values p).fb ≡ true))
 unfolding values_name
-values_some t d id names = (let found = list_any-some (λ plane. is_fb id (plane_at d.world.things d.world.values plane).fb) (ids_of t Plane) names in (found.item, (found.is_in, found.holds)))
+values_some t d id names = (let found = list_any-some (λ plane. is_fb id (plane_at d.world.things d.world.values plane).fb) (ids_of t Plane)
+    names in (found.item, (found.is_in, found.holds)))
 
-pub values_by : (t : Topology) (d : DeviceState) (id p : ℕ) → IsIn p (ids_of t Plane) → is_fb id (plane_at d.world.things d.world.values p).fb ≡ true → values_name t d id ≡ true
+pub values_by : (t : Topology) (d : DeviceState) (id p : ℕ) → IsIn p (ids_of t Plane)
+    → is_fb id (plane_at d.world.things d.world.values p).fb ≡ true → values_name t d id ≡ true
 unfolding values_name
 values_by t d id p is names = list_any-has (λ plane. is_fb id (plane_at d.world.things d.world.values plane).fb) (ids_of t Plane) p is names
 
-pub old_kept : (t : Topology) (x : Commit) (d n : DeviceState) (id k : ℕ) → n.commits ≡ x ∷ d.commits → k < length d.commits → commit_keeps t n id k ≡ commit_keeps t d id k
+pub old_kept : (t : Topology) (x : Commit) (d n : DeviceState) (id k : ℕ) → n.commits ≡ x ∷ d.commits → k < length d.commits
+    → commit_keeps t n id k ≡ commit_keeps t d id k
 unfolding commit_keeps old_plane new_plane
 old_kept t x d n id k commits within =
-    ap (λ cs. list_any (λ plane. commit_touches t cs k plane && (is_fb id (old_plane t cs k plane).fb || is_fb id (new_plane t cs k plane).fb)) (ids_of t Plane)) commits
+    ap (λ cs. list_any (λ plane. commit_touches t cs k plane
+    && (is_fb id (old_plane t cs k plane).fb || is_fb id (new_plane t cs k plane).fb)) (ids_of t Plane)) commits
     ∙ list_any-same _ _ (ids_of t Plane) (λ p is.
     λ i. touches_old t x d.commits k p within i
     && (is_fb id (plane_at (commit_old t x d.commits k within i).world.things (old_values (commit_old t x d.commits k within i)) p).fb
     || is_fb id (plane_at (commit_old t x d.commits k within i).world.things (new_values (commit_old t x d.commits k within i)) p).fb))
 
 -- the old state of a plane that a new commit touches is kept
-pub new_kept : (t : Topology) (x : Commit) (d n : DeviceState) (id p : ℕ) → n.commits ≡ x ∷ d.commits → x.world ≡ d.world → IsIn p (ids_of t Plane) → commit_touches t n.commits (length d.commits) p ≡ true
+pub new_kept : (t : Topology) (x : Commit) (d n : DeviceState) (id p : ℕ) → n.commits ≡ x ∷ d.commits → x.world ≡ d.world
+    → IsIn p (ids_of t Plane) → commit_touches t n.commits (length d.commits) p ≡ true
     → is_fb id (plane_at d.world.things d.world.values p).fb ≡ true → commit_keeps t n id (length d.commits) ≡ true
 unfolding commit_keeps old_plane
 new_kept t x d n id p commits own is touched names =
-    list_any-has (λ plane. commit_touches t n.commits (length d.commits) plane && (is_fb id (old_plane t n.commits (length d.commits) plane).fb || is_fb id (new_plane t n.commits (length d.commits) plane).fb)) (ids_of t Plane) p is
+    list_any-has (λ plane. commit_touches t n.commits (length d.commits) plane
+    && (is_fb id (old_plane t n.commits (length d.commits) plane).fb || is_fb id (new_plane t n.commits (length d.commits) plane).fb))
+    (ids_of t Plane) p is
     (and_from _ _ touched (or_left (is_fb id (old_plane t n.commits (length d.commits) p).fb) _
-    (ap (λ (c : Commit). is_fb id (plane_at c.world.things (old_values c) p).fb) (ap (λ cs. commit_at t cs (length d.commits)) commits ∙ commit_new t x d.commits)
+    (ap (λ (c : Commit). is_fb id (plane_at c.world.things (old_values c) p).fb)
+    (ap (λ cs. commit_at t cs (length d.commits)) commits ∙ commit_new t x d.commits)
     ∙ ap (λ (w : World). is_fb id (plane_at w.things w.values p).fb) own ∙ names)))
 
 -- A request is committed.
@@ -436,9 +499,14 @@ pub record IsCommitted (s : Script) (m n : Machine) (client : ℕ) (x : Commit) 
   pub unclean : has_number m.device.marks.cleaned (length m.device.commits) ≡ false
 
 pub swap_quiet : (s : Script) (m n : Machine) (client : ℕ) (x : Commit) → IsCommitted s m n client x
-    → ((u v : Thing) → IsIn u m.device.world.things → is_framebuffer u.content ≡ true → thing_with_id n.device.world.things u.id ≡ Some v → is_needed s.topology n v ≡ true → is_needed s.topology m u ≡ true) → IsQuiet s.topology m n
+    → ((u v : Thing) → IsIn u m.device.world.things → is_framebuffer u.content ≡ true → thing_with_id n.device.world.things u.id ≡ Some v
+    → is_needed s.topology n v ≡ true → is_needed s.topology m u ≡ true) → IsQuiet s.topology m n
 swap_quiet s m n client x C back =
-    quiet_longer t m n E.more numbered (record { things = things; same = λ u is. bool_same _ _ (λ needed. back u u is (needs_of t n u needed).framebuffer (found_now u is) needed) (there u is) }) E.none
+    quiet_longer t m n E.more numbered (record {
+      things = things;
+      same = λ u is. bool_same _ _
+          (λ needed. back u u is (needs_of t n u needed).framebuffer (found_now u is) needed) (there u is);
+    }) E.none
   where
     t : Topology
     t = s.topology
@@ -453,7 +521,8 @@ swap_quiet s m n client x C back =
     things = ap (λ (w : World). w.things) C.world ∙ E.same
 
     found_now : (u : Thing) → IsIn u m.device.world.things → thing_with_id n.device.world.things u.id ≡ Some u
-    found_now u is = ap (λ all. thing_with_id all u.id) things ∙ with_id_longer m.device.world.things E.more u.id u (with-id 1000 m.device.world.things u numbered is)
+    found_now u is = ap (λ all. thing_with_id all u.id) things ∙ with_id_longer m.device.world.things E.more u.id u
+        (with-id 1000 m.device.world.things u numbered is)
 
     size : length n.device.commits ≡ suc (length m.device.commits)
     size = ap length C.commits
@@ -461,16 +530,21 @@ swap_quiet s m n client x C back =
     numbers : (k : ℕ) → k < suc (length m.device.commits) → IsIn k (commit_numbers n)
     numbers k low = range-in 0 (length n.device.commits) k (omega arith) (omega (arith, low, size))
 
-    named_still : (u : Thing) → 1 ≤ u.id → (p : ℕ) → IsIn p (ids_of t Plane) → is_fb u.id (plane_at m.device.world.things m.device.world.values p).fb ≡ true
-        → (b : Bool) → commit_touches t n.device.commits (length m.device.commits) p ≡ b → (values_name t n.device u.id ≡ true) ⊎ ((live_names t n.device u.id ≡ true) ⊎ (commits_keep t n u.id ≡ true))
+    named_still : (u : Thing) → 1 ≤ u.id → (p : ℕ) → IsIn p (ids_of t Plane)
+        → is_fb u.id (plane_at m.device.world.things m.device.world.values p).fb ≡ true
+        → (b : Bool) → commit_touches t n.device.commits (length m.device.commits) p ≡ b → (values_name t n.device u.id ≡ true)
+        ⊎ ((live_names t n.device u.id ≡ true) ⊎ (commits_keep t n u.id ≡ true))
     named_still u some p is names true touched =
-        inr (inr (keeps_by t n u.id (length m.device.commits) (numbers (length m.device.commits) (omega arith)) (ap (λ cs. has_number cs (length m.device.commits)) C.cleaned ∙ C.unclean)
+        inr (inr (keeps_by t n u.id (length m.device.commits) (numbers (length m.device.commits) (omega arith))
+        (ap (λ cs. has_number cs (length m.device.commits)) C.cleaned ∙ C.unclean)
         (new_kept t x m.device n.device u.id p C.commits C.own is touched names)))
     named_still u some p is names false untouched =
         let after_all = C.holds_now.present.states.plane p is ∙ ap (λ k. plane_after t n.device.commits k p) size in
         let frame = C.holds_now.tail.commits.plane_frame (length m.device.commits) p (omega (arith, size)) is untouched in
-        let before_all = ap (λ cs. plane_after t cs (length m.device.commits) p) C.commits ∙ plane_old t x m.device.commits (length m.device.commits) p (omega arith) ∙ sym (C.holds.present.states.plane p is) in
-        inl (values_by t n.device u.id p is (names_alike u.id (plane_at m.device.world.things m.device.world.values p) (plane_at n.device.world.things n.device.world.values p) some (sym (after_all ∙ frame ∙ before_all)) names))
+        let before_all = ap (λ cs. plane_after t cs (length m.device.commits) p) C.commits ∙ plane_old t x m.device.commits
+        (length m.device.commits) p (omega arith) ∙ sym (C.holds.present.states.plane p is) in
+        inl (values_by t n.device u.id p is (names_alike u.id (plane_at m.device.world.things m.device.world.values p)
+        (plane_at n.device.world.things n.device.world.values p) some (sym (after_all ∙ frame ∙ before_all)) names))
 
     there : (u : Thing) → IsIn u m.device.world.things → is_needed t m u ≡ true → is_needed t n u ≡ true
     there u is needed =
@@ -481,13 +555,16 @@ swap_quiet s m n client x C back =
           why = elim needs.why [
             | inl opened ↦ inl opened
             | inr rest ↦ inr (elim rest [
-              | inl values ↦ (let found = values_some t m.device u.id values in named_still u (let l = at.low in omega (arith, l)) found.0 found.1.0 found.1.1 (commit_touches t n.device.commits (length m.device.commits) found.0) refl)
+              | inl values ↦ (let found = values_some t m.device u.id values
+                  in named_still u (let l = at.low in omega (arith, l)) found.0 found.1.0 found.1.1
+                  (commit_touches t n.device.commits (length m.device.commits) found.0) refl)
               | inr rest ↦ inr (elim rest [
                 | inl live ↦ inl (live_same t m n u.id C.live ∙ live)
                 | inr kept ↦ inr (
                     let found = keeps_some t m u.id kept in
                     let low = range-below 0 (length m.device.commits) found.0 found.1.0 in
-                    keeps_by t n u.id found.0 (numbers found.0 (omega (arith, low))) (ap (λ cs. has_number cs found.0) C.cleaned ∙ found.1.1.0)
+                    keeps_by t n u.id found.0 (numbers found.0 (omega (arith, low)))
+                    (ap (λ cs. has_number cs found.0) C.cleaned ∙ found.1.1.0)
                     (old_kept t x m.device n.device u.id found.0 C.commits (omega (arith, low)) ∙ found.1.1.1))
               ])
             ])

@@ -1,5 +1,6 @@
 -- What is needed stays in the store, and what a step frees leaves it.
-use Rattle.std.proofs.Common.{◌≡◌, ℕ, ◌+◌, ◌<◌, List, [], ◌∷◌, ◌++◌, length, map, Bool, true, false, not, ◌&&◌, ◌||◌, ◌==◌, Option, Some, None, refl, sym, ap, ◌∙◌, subst, arith, inl, inr}
+use Rattle.std.proofs.Common.{◌≡◌, ℕ, ◌+◌, ◌<◌, List, [], ◌∷◌, ◌++◌, length, map, Bool, true, false, not, ◌&&◌, ◌||◌, ◌==◌, Option, Some}
+use Rattle.std.proofs.Common.{None, refl, sym, ap, ◌∙◌, subst, arith, inl, inr}
 use Rattle.std.specs.Prelude.{if◌then◌else◌, filter}
 use Rattle.std.specs.List.{list_any}
 use Rattle.std.specs.Option.{option_map}
@@ -137,7 +138,8 @@ same_stored t m n fbs same S = λ id. S id ∙ at id (thing_with_id m.device.wor
       at id None found = refl
       at id (Some x) found =
           ap (λ b. if b then held_as x x.content else None)
-          (sym (ap (passes (is_needed t m)) (ap (thing_with_id m.device.world.things) (find-same m.device.world.things id x found) ∙ found)))
+          (sym (ap (passes (is_needed t m)) (ap (thing_with_id m.device.world.things) (find-same m.device.world.things id x found) ∙
+          found)))
 
 -- what is needed before a step and not after it
 abbrev lost_by : Topology → Machine → Machine → Thing → Bool

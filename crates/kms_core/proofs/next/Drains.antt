@@ -18,7 +18,8 @@ none_is (Some a) false e = refl
 
 cleaned_from : (r : Run) (o : Option ℕ) → IsFirstFrom (machine r).device.marks (length (machine r).device.commits) 0 o
     → is_none o ≡ list_all (is_cleaned (machine r).device) (commit_numbers (machine r))
-cleaned_from r None first = sym (all_pass (is_cleaned (machine r).device) 0 (length (machine r).device.commits) (λ j low high. first j low (omega (arith, high))))
+cleaned_from r None first = sym (all_pass (is_cleaned (machine r).device) 0 (length (machine r).device.commits)
+    (λ j low high. first j low (omega (arith, high))))
 cleaned_from r (Some k) first =
     let within = first.1 in
     sym (one_fails (is_cleaned (machine r).device) 0 (length (machine r).device.commits) k (omega arith) (omega (arith, within)) first.2)
@@ -31,7 +32,8 @@ cleaned_told r v st o b stands same first none =
     ∙ ap (λ (w : Run). list_all (is_cleaned (machine w).device) (commit_numbers (machine w))) same
 
 module _ (v : Run) where
-  pub drained_both : (b : Bool) → list_all (is_at_end v.script (machine v)) (client_numbers v.script) ≡ true → b ≡ list_all (is_cleaned (machine v).device) (commit_numbers (machine v)) → b ≡ is_drained v.script (machine v)
+  pub drained_both : (b : Bool) → list_all (is_at_end v.script (machine v)) (client_numbers v.script) ≡ true → b
+      ≡ list_all (is_cleaned (machine v).device) (commit_numbers (machine v)) → b ≡ is_drained v.script (machine v)
   unfolding is_drained
   drained_both b ended is = is ∙ ap (λ x. x && list_all (is_cleaned (machine v).device) (commit_numbers (machine v))) (sym ended)
 

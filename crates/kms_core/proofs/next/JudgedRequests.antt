@@ -49,16 +49,20 @@ all_more : (f : ℕ → Bool) (p : ℕ) → all_below f (p + 1) ≡ (all_below f
 unfolding all_below
 all_more f p = rw (add-one p) refl
 
-pub one_more : (f : ℕ → Bool) (p : ℕ) (before after : Bool) → before ≡ all_below f p → before ≡ true → after ≡ f p → after ≡ all_below f (p + 1)
+pub one_more : (f : ℕ → Bool) (p : ℕ) (before after : Bool) → before ≡ all_below f p → before ≡ true → after ≡ f p → after
+    ≡ all_below f (p + 1)
 one_more f p before after is all now = now ∙ ap (λ b. b && f p) (sym all ∙ is) ∙ sym (all_more f p)
 
-pub no_more : (f : ℕ → Bool) (p : ℕ) (before after : Bool) → before ≡ all_below f p → before ≡ false → after ≡ before → after ≡ all_below f (p + 1)
+pub no_more : (f : ℕ → Bool) (p : ℕ) (before after : Bool) → before ≡ all_below f p → before ≡ false → after ≡ before → after
+    ≡ all_below f (p + 1)
 no_more f p before after is out same = same ∙ out ∙ ap (λ b. b && f p) (sym out ∙ is) ∙ sym (all_more f p)
 
 -- The request, as the call finds it
 
-pub takes_at : (r v : Run) (client : ℕ) (request : Request) → r ≡ v → Some request ≡ request_taken v.script (machine v) client → Takes r.script (machine r) client request
-takes_at r v client request same is = taken_parts r.script (machine r) client request (is ∙ ap (λ (w : Run). request_taken w.script (machine w) client) (sym same))
+pub takes_at : (r v : Run) (client : ℕ) (request : Request) → r ≡ v → Some request ≡ request_taken v.script (machine v) client
+    → Takes r.script (machine r) client request
+takes_at r v client request same is = taken_parts r.script (machine r) client request
+    (is ∙ ap (λ (w : Run). request_taken w.script (machine w) client) (sym same))
 
 -- The early refusals
 
@@ -77,12 +81,15 @@ pub early_told : (r : Run) (st : Stores) (request : Request) (o : Option Refusal
     → is_some (early_in r.script.topology (world r) request) ≡ told
 early_told r st request o told stands first is =
     let looks : (λ label. look_of (thing_labelled st.made.things label)) ≡ look_up (world r) = λ i label. tells_now r st stands label i in
-    ap (λ g. is_some (early_refusal r.script.topology g request)) (sym looks) ∙ ap (λ (n : Option ℕ). is_some n) (sym first) ∙ some_number o ∙ is
+    ap (λ g. is_some (early_refusal r.script.topology g request)) (sym looks) ∙ ap (λ (n : Option ℕ). is_some n) (sym first) ∙ some_number o
+    ∙ is
 
 pub early_none : (r : Run) (st : Stores) (request : Request) (o : Option Refusal) → Stands r st
-    → refusal_number o ≡ early_refusal r.script.topology (λ label. look_of (thing_labelled st.made.things label)) request → is_some o ≡ false
+    → refusal_number o ≡ early_refusal r.script.topology (λ label. look_of (thing_labelled st.made.things label)) request → is_some o
+    ≡ false
     → early_in r.script.topology (world r) request ≡ None
-early_none r st request o stands first is = not-none (early_in r.script.topology (world r) request) (early_told r st request o false stands first is)
+early_none r st request o stands first is = not-none (early_in r.script.topology (world r) request)
+    (early_told r st request o false stands first is)
 
 pub judged_early : (r v : Run) (st : Stores) (client : ℕ) (request : Request) (o : Option Refusal) → Stands r st → r ≡ v
     → refusal_number o ≡ early_refusal r.script.topology (λ label. look_of (thing_labelled st.made.things label)) request → is_some o ≡ true
@@ -114,7 +121,8 @@ pub record AreTold (r : Run) (st : Stores) (client : ℕ) (request : Request) (j
   pub hindered : j.hindered ≡ late_told queue st.tracker named touched request.flags
   pub ready : j.ready ≡ is_none (not_yet_of st.tracker named)
 
-pub judged_late : (r v : Run) (st : Stores) (client : ℕ) (request : Request) (j : Judged) → Stands r st → r ≡ v → Takes r.script (machine r) client request → AreTold r st client request j
+pub judged_late : (r v : Run) (st : Stores) (client : ℕ) (request : Request) (j : Judged) → Stands r st → r ≡ v
+    → Takes r.script (machine r) client request → AreTold r st client request j
     → IsJudged v.script.topology (machine v) client request (Some j)
 judged_late r v st client request j stands same takes told =
     let t = r.script.topology in
@@ -130,7 +138,8 @@ judged_late r v st client request j stands same takes told =
       holds = told.holds ∙ mask_holds t m client request told.touched stands.formed.device told.touched_is;
       late = ap refusal_number told.late ∙ told.refusal_is;
       hindered = told.hindered ∙ late_is;
-      ready = told.ready ∙ ap (λ n. is_none (not_yet_of st.tracker n)) told.named_is ∙ not_yet_machine t m st.tracker request stands.stores.tracker limits;
+      ready = told.ready ∙ ap (λ n. is_none (not_yet_of st.tracker n)) told.named_is ∙ not_yet_machine t m st.tracker request
+          stands.stores.tracker limits;
     } in
     subst (λ (w : Run). IsJudged w.script.topology (machine w) client request (Some j)) same here
 
@@ -149,14 +158,17 @@ unfolding may
 no_swap s m client is = sym (taking-none s m client (may_swap s.topology m client) is)
 
 -- no request is accepted for which an early refusal is due
-not_accepted : (s : Script) (m : Machine) (request : Request) → is_some (early_in s.topology m.device.world request) ≡ true → is_none (verdict s.topology m.device.world request) ≡ false
+not_accepted : (s : Script) (m : Machine) (request : Request) → is_some (early_in s.topology m.device.world request) ≡ true
+    → is_none (verdict s.topology m.device.world request) ≡ false
 unfolding verdict
 not_accepted s m request early = by (early_in s.topology m.device.world request) refl early where
-  by : (o : Option ℕ) → early_in s.topology m.device.world request ≡ o → is_some o ≡ true → is_none (verdict s.topology m.device.world request) ≡ false
+  by : (o : Option ℕ) → early_in s.topology m.device.world request ≡ o → is_some o ≡ true
+      → is_none (verdict s.topology m.device.world request) ≡ false
   by None is some = absurd cc
   by (Some n) is some = rw is refl
 
-accepted_late : (s : Script) (m : Machine) (request : Request) → early_in s.topology m.device.world request ≡ None → is_none (verdict s.topology m.device.world request) ≡ not (is_some (late_in s.topology m.device.world request))
+accepted_late : (s : Script) (m : Machine) (request : Request) → early_in s.topology m.device.world request ≡ None
+    → is_none (verdict s.topology m.device.world request) ≡ not (is_some (late_in s.topology m.device.world request))
 unfolding verdict
 accepted_late s m request none = rw none (none-some (late_in s.topology m.device.world request))
 
@@ -170,11 +182,13 @@ module _ (s : Script) (m : Machine) (client : ℕ) (request : Request) (is : Som
 
   pub test_early : IsJudged s.topology m client request None → false ≡ may s m (step.Test client)
   unfolding may may_test
-  test_early early = sym (taking-is s m client (may_test s.topology m client) request takes ∙ rw (not_accepted s m request early) (both_off (is_test request.flags) _))
+  test_early early = sym (taking-is s m client (may_test s.topology m client) request takes ∙ rw (not_accepted s m request early)
+      (both_off (is_test request.flags) _))
 
   pub swap_early : IsJudged s.topology m client request None → false ≡ may s m (step.Swap client)
   unfolding may may_swap
-  swap_early early = sym (taking-is s m client (may_swap s.topology m client) request takes ∙ rw (not_accepted s m request early) (both_off (not (is_test request.flags)) _))
+  swap_early early = sym (taking-is s m client (may_swap s.topology m client) request takes ∙ rw (not_accepted s m request early)
+      (both_off (not (is_test request.flags)) _))
 
   module _ (j : Judged) (told : IsJudgedLate s.topology m client request j) (test : Bool) (test_is : test ≡ is_test request.flags) where
     late_some : is_some j.late ≡ is_some (late_in s.topology m.device.world request)
@@ -183,11 +197,13 @@ module _ (s : Script) (m : Machine) (client : ℕ) (request : Request) (is : Som
     hindered_some : is_some j.hindered ≡ (lacks_space s.topology m client request || is_busy s.topology m request)
     hindered_some =
         ap (λ (x : Option Reply). is_some x) told.hindered
-        ∙ some_late (lacks_space s.topology m client request) (is_busy s.topology m request) (reply.Space (space_used m.events client)) (busy_reply s.topology m (first_pending s.topology m request))
+        ∙ some_late (lacks_space s.topology m client request) (is_busy s.topology m request) (reply.Space (space_used m.events client))
+        (busy_reply s.topology m (first_pending s.topology m request))
 
     pub refuse_late : (j.holds && (is_some j.late || (not test && is_some j.hindered))) ≡ may s m (step.Refuse client)
     unfolding may may_refuse
-    refuse_late = rw (told.holds, late_some, hindered_some, test_is) (sym (taking-is s m client (may_refuse s.topology m client) request takes ∙ rw told.none refl))
+    refuse_late = rw (told.holds, late_some, hindered_some, test_is)
+        (sym (taking-is s m client (may_refuse s.topology m client) request takes ∙ rw told.none refl))
 
     pub test_late : (test && (j.holds && is_none j.late)) ≡ may s m (step.Test client)
     unfolding may may_test
@@ -195,7 +211,8 @@ module _ (s : Script) (m : Machine) (client : ℕ) (request : Request) (is : Som
         rw (told.holds, none-some j.late, late_some, test_is)
         (sym (taking-is s m client (may_test s.topology m client) request takes ∙ rw (accepted_late s m request told.none) refl))
 
-    hinders : (test b c : Bool) (holds late : Bool) → (not test && (holds && (late && (not (not test && b) && c)))) ≡ (not test && (holds && (late && (not b && c))))
+    hinders : (test b c : Bool) (holds late : Bool) → (not test && (holds && (late && (not (not test && b) && c))))
+        ≡ (not test && (holds && (late && (not b && c))))
     hinders true b c holds late = refl
     hinders false b c holds late = refl
 
@@ -203,4 +220,6 @@ module _ (s : Script) (m : Machine) (client : ℕ) (request : Request) (is : Som
     unfolding may may_swap
     swap_late =
         rw (told.holds, none-some j.late, none-some j.hindered, late_some, hindered_some, told.ready, test_is)
-        (sym (taking-is s m client (may_swap s.topology m client) request takes ∙ rw (accepted_late s m request told.none) (hinders (is_test request.flags) (lacks_space s.topology m client request || is_busy s.topology m request) (is_ready s.topology m request) _ _)))
+        (sym (taking-is s m client (may_swap s.topology m client) request takes ∙ rw (accepted_late s m request told.none)
+        (hinders (is_test request.flags) (lacks_space s.topology m client request || is_busy s.topology m request)
+        (is_ready s.topology m request) _ _)))

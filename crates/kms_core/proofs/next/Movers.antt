@@ -33,12 +33,18 @@ able r = may r.script (machine r)
 
 -- Clients
 
-pub some_client : (r : Run) (client : ℕ) → 1 ≤ client → client < 1 + length r.script.clients → list_any (able r) (steps_of_client r.script.topology client) ≡ true → true ≡ list_any (able r) (flat_map (steps_of_client r.script.topology) (client_numbers r.script))
+pub some_client : (r : Run) (client : ℕ) → 1 ≤ client → client < 1 + length r.script.clients
+    → list_any (able r) (steps_of_client r.script.topology client) ≡ true → true
+    ≡ list_any (able r) (flat_map (steps_of_client r.script.topology) (client_numbers r.script))
 some_client r client low high moves =
-    sym (any_flat (able r) (steps_of_client r.script.topology) (client_numbers r.script) ∙ one_passes (λ k. list_any (able r) (steps_of_client r.script.topology k)) 1 (length r.script.clients) client low high moves)
+    sym (any_flat (able r) (steps_of_client r.script.topology) (client_numbers r.script) ∙ one_passes
+    (λ k. list_any (able r) (steps_of_client r.script.topology k)) 1 (length r.script.clients) client low high moves)
 
-pub no_client_step : (r : Run) → ((client : ℕ) → 1 ≤ client → client < 1 + length r.script.clients → list_any (able r) (steps_of_client r.script.topology client) ≡ false) → false ≡ list_any (able r) (flat_map (steps_of_client r.script.topology) (client_numbers r.script))
-no_client_step r none = sym (any_flat (able r) (steps_of_client r.script.topology) (client_numbers r.script) ∙ none_pass (λ k. list_any (able r) (steps_of_client r.script.topology k)) 1 (length r.script.clients) none)
+pub no_client_step : (r : Run) → ((client : ℕ) → 1 ≤ client → client < 1 + length r.script.clients
+    → list_any (able r) (steps_of_client r.script.topology client) ≡ false) → false
+    ≡ list_any (able r) (flat_map (steps_of_client r.script.topology) (client_numbers r.script))
+no_client_step r none = sym (any_flat (able r) (steps_of_client r.script.topology) (client_numbers r.script) ∙ none_pass
+    (λ k. list_any (able r) (steps_of_client r.script.topology k)) 1 (length r.script.clients) none)
 
 -- Tails
 
@@ -50,10 +56,15 @@ module _ (r v : Run) (st : Stores) (stands : Stands r st) (same : r ≡ v) where
       (machine r).records.latches stands.stores.tracker in
       let within = found.1 in
       let size = ap (λ (w : Run). length (machine w).device.commits) same in
-      sym (any_flat (able v) (steps_of_commit v.script.topology) (commit_numbers (machine v)) ∙ one_passes (λ j. list_any (able v) (steps_of_commit v.script.topology j)) 0 (length (machine v).device.commits) k (omega arith) (omega (arith, within, size)) moves)
+      sym (any_flat (able v) (steps_of_commit v.script.topology) (commit_numbers (machine v)) ∙ one_passes
+      (λ j. list_any (able v) (steps_of_commit v.script.topology j)) 0 (length (machine v).device.commits) k (omega arith)
+      (omega (arith, within, size)) moves)
 
-  cleaned_rests : (j : ℕ) → has_number (machine r).device.marks.cleaned j ≡ true → list_any (able v) (steps_of_commit v.script.topology j) ≡ false
-  cleaned_rests j clean = subst (λ (w : Run). list_any (able w) (steps_of_commit w.script.topology j) ≡ false) same (list_any-none (able r) (steps_of_commit r.script.topology j) (λ step is. no_step r.script (machine r) (facts r st stands).holds j clean step is))
+  cleaned_rests : (j : ℕ) → has_number (machine r).device.marks.cleaned j ≡ true → list_any (able v) (steps_of_commit v.script.topology j)
+      ≡ false
+  cleaned_rests j clean = subst (λ (w : Run). list_any (able w) (steps_of_commit w.script.topology j) ≡ false) same
+      (list_any-none (able r) (steps_of_commit r.script.topology j)
+      (λ step is. no_step r.script (machine r) (facts r st stands).holds j clean step is))
 
   pub no_tail_step : (from : ℕ) → FindsFirst st.tracker from None
       → ((j : ℕ) → j < from → list_any (able v) (steps_of_commit v.script.topology j) ≡ false)
@@ -80,23 +91,37 @@ module _ (r : Run) where
   -- Steps of a client, and of a commit, group by group
 
   locks_told : (client : ℕ) → locks_one r.script (machine r) client
-      ≡ list_any (able r) (for_each r.script.topology Crtc (λ kind index. step.Lock client kind index) ++ (for_each r.script.topology Plane (λ kind index. step.Lock client kind index) ++ for_each r.script.topology Conn (λ kind index. step.Lock client kind index)))
+      ≡ list_any (able r) (for_each r.script.topology Crtc (λ kind index. step.Lock client kind index)
+      ++ (for_each r.script.topology Plane (λ kind index. step.Lock client kind index)
+      ++ for_each r.script.topology Conn (λ kind index. step.Lock client kind index)))
   locks_told client =
       let crtcs = any_mapped (able r) (step.Lock client Crtc) (range_with_len 0 (count_of r.script.topology Crtc)) in
       let planes = any_mapped (able r) (step.Lock client Plane) (range_with_len 0 (count_of r.script.topology Plane)) in
       let conns = any_mapped (able r) (step.Lock client Conn) (range_with_len 0 (count_of r.script.topology Conn)) in
       sym
-      (list_any-append (able r) (for_each r.script.topology Crtc (λ kind index. step.Lock client kind index)) (for_each r.script.topology Plane (λ kind index. step.Lock client kind index) ++ for_each r.script.topology Conn (λ kind index. step.Lock client kind index))
-      ∙ rw (list_any-append (able r) (for_each r.script.topology Plane (λ kind index. step.Lock client kind index)) (for_each r.script.topology Conn (λ kind index. step.Lock client kind index)), crtcs, planes, conns) refl)
+      (list_any-append (able r) (for_each r.script.topology Crtc (λ kind index. step.Lock client kind index))
+      (for_each r.script.topology Plane (λ kind index. step.Lock client kind index)
+      ++ for_each r.script.topology Conn (λ kind index. step.Lock client kind index))
+      ∙ rw (
+        list_any-append (able r) (for_each r.script.topology Plane (λ kind index. step.Lock client kind index))
+            (for_each r.script.topology Conn (λ kind index. step.Lock client kind index)),
+        crtcs,
+        planes,
+        conns,
+      ) refl)
 
   pub client_moved : (client : ℕ) → client_moves r.script (machine r) client ≡ list_any (able r) (steps_of_client r.script.topology client)
   client_moved client =
-      let locks = for_each r.script.topology Crtc (λ kind index. step.Lock client kind index) ++ (for_each r.script.topology Plane (λ kind index. step.Lock client kind index) ++ for_each r.script.topology Conn (λ kind index. step.Lock client kind index)) in
-      ap (λ b. list_any (able r) (context_steps client) || (list_any (able r) (decision_steps client) || (list_any (able r) (other_steps client) || b))) (locks_told client)
+      let locks = for_each r.script.topology Crtc (λ kind index. step.Lock client kind index)
+      ++ (for_each r.script.topology Plane (λ kind index. step.Lock client kind index)
+      ++ for_each r.script.topology Conn (λ kind index. step.Lock client kind index)) in
+      ap (λ b. list_any (able r) (context_steps client)
+      || (list_any (able r) (decision_steps client) || (list_any (able r) (other_steps client) || b))) (locks_told client)
       ∙ sym
       (list_any-append (able r) (context_steps client) (decision_steps client ++ (other_steps client ++ locks))
       ∙ ap (λ b. list_any (able r) (context_steps client) || b)
-      (list_any-append (able r) (decision_steps client) (other_steps client ++ locks) ∙ ap (λ b. list_any (able r) (decision_steps client) || b) (list_any-append (able r) (other_steps client) locks)))
+      (list_any-append (able r) (decision_steps client) (other_steps client ++ locks) ∙ ap
+      (λ b. list_any (able r) (decision_steps client) || b) (list_any-append (able r) (other_steps client) locks)))
 
   pub tail_moved : (k : ℕ) → tail_moves r.script (machine r) k ≡ list_any (able r) (steps_of_commit r.script.topology k)
   tail_moved k =
@@ -107,28 +132,38 @@ module _ (r : Run) where
       let b = for_each r.script.topology Plane (λ kind index. step.Write k kind index) in
       let c = for_each r.script.topology Crtc (λ kind index. step.Flush k kind index) in
       let ends = step.HwDone k ∷ step.Cleanup k ∷ [] in
-      let last : (able r (step.HwDone k) || able r (step.Cleanup k)) ≡ list_any (able r) ends = ap (λ x. able r (step.HwDone k) || x) (sym (or_false (able r (step.Cleanup k)))) in
+      let last : (able r (step.HwDone k) || able r (step.Cleanup k))
+      ≡ list_any (able r) ends = ap (λ x. able r (step.HwDone k) || x) (sym (or_false (able r (step.Cleanup k)))) in
       ap (λ x. able r (step.Claim k) || x)
       (sym
       (list_any-append (able r) a (b ++ (c ++ ends)) ∙ (λ i. crtcs i || list_any-append (able r) b (c ++ ends) i)
-      ∙ ap (λ x. writes_some r.script (machine r) k Crtc || x) ((λ i. planes i || list_any-append (able r) c ends i) ∙ ap (λ x. writes_some r.script (machine r) k Plane || x) (λ i. flushes i || sym last i))))
+      ∙ ap (λ x. writes_some r.script (machine r) k Crtc || x)
+      ((λ i. planes i || list_any-append (able r) c ends i) ∙ ap (λ x. writes_some r.script (machine r) k Plane || x)
+      (λ i. flushes i || sym last i))))
 
   -- CRTCs that go
 
-  pub goes_able : (index : ℕ) → index < count_of r.script.topology Crtc → is_some (go_at (machine r).device (object_id Crtc index)) ≡ true → able r (step.Vblank Crtc index) ≡ true
+  pub goes_able : (index : ℕ) → index < count_of r.script.topology Crtc → is_some (go_at (machine r).device (object_id Crtc index)) ≡ true
+      → able r (step.Vblank Crtc index) ≡ true
   unfolding may
-  goes_able index within goes = and_from (is_crtc_of r.script.topology Crtc index) _ (lt-ltb index (count_of r.script.topology Crtc) within) (or_left (is_some (go_at (machine r).device (object_id Crtc index))) (is_on_in (machine r).device.live (object_id Crtc index)) goes)
+  goes_able index within goes = and_from (is_crtc_of r.script.topology Crtc index) _ (lt-ltb index (count_of r.script.topology Crtc) within)
+      (or_left (is_some (go_at (machine r).device (object_id Crtc index))) (is_on_in (machine r).device.live (object_id Crtc index)) goes)
 
   abbrev has_go : ℕ → Bool
   has_go index = is_some (go_at (machine r).device (object_id Crtc index))
 
-  go_told : list_any (able r) (steps_with_go r.script.topology (machine r)) ≡ list_any has_go (range_with_len 0 (count_of r.script.topology Crtc))
-  go_told = any_filtered (able r) (step.Vblank Crtc) has_go 0 (count_of r.script.topology Crtc) (λ j low high goes. goes_able j (omega (arith, high)) goes)
+  go_told : list_any (able r) (steps_with_go r.script.topology (machine r))
+      ≡ list_any has_go (range_with_len 0 (count_of r.script.topology Crtc))
+  go_told = any_filtered (able r) (step.Vblank Crtc) has_go 0 (count_of r.script.topology Crtc)
+      (λ j low high goes. goes_able j (omega (arith, high)) goes)
 
-  pub some_go : (index : ℕ) → index < count_of r.script.topology Crtc → has_go index ≡ true → true ≡ list_any (able r) (steps_with_go r.script.topology (machine r))
-  some_go index within goes = sym (go_told ∙ one_passes has_go 0 (count_of r.script.topology Crtc) index (omega arith) (omega (arith, within)) goes)
+  pub some_go : (index : ℕ) → index < count_of r.script.topology Crtc → has_go index ≡ true → true
+      ≡ list_any (able r) (steps_with_go r.script.topology (machine r))
+  some_go index within goes = sym (go_told ∙ one_passes has_go 0 (count_of r.script.topology Crtc) index (omega arith)
+      (omega (arith, within)) goes)
 
-  pub no_go : ((index : ℕ) → index < count_of r.script.topology Crtc → has_go index ≡ false) → false ≡ list_any (able r) (steps_with_go r.script.topology (machine r))
+  pub no_go : ((index : ℕ) → index < count_of r.script.topology Crtc → has_go index ≡ false) → false
+      ≡ list_any (able r) (steps_with_go r.script.topology (machine r))
   no_go rests = sym (go_told ∙ none_pass has_go 0 (count_of r.script.topology Crtc) (λ j low high. rests j (omega (arith, high))))
 
 -- the end of a history is no such step

@@ -57,27 +57,37 @@ use Rattle.kms_core.proofs.next.Taken.{lockable_exists, taken_parts, taking-is}
 -- Groups
 
 module _ (t : Topology) (w : World) (n : Needs) (needs : AreNeeds t w n) where
-  pub named_told : (k : Kind) (i : ℕ) → i < 16 → is_lockable t k i ≡ true → is_member n.named k i ≡ in_named_group t w n.request.now (object_id k i)
+  pub named_told : (k : Kind) (i : ℕ) → i < 16 → is_lockable t k i ≡ true → is_member n.named k i
+      ≡ in_named_group t w n.request.now (object_id k i)
   named_told Crtc i few on =
       rw (kind_of-object Crtc i (omega arith))
-      (ap (λ (m : Mask). has_bit m.crtcs i) needs.named ∙ has_bit-below (λ j. names w.values (after w n.request.now) n.request.now.assigns (object_id Crtc j)) t.crtcs i (ltb-true i t.crtcs on))
+      (ap (λ (m : Mask). has_bit m.crtcs i) needs.named ∙ has_bit-below
+      (λ j. names w.values (after w n.request.now) n.request.now.assigns (object_id Crtc j)) t.crtcs i (ltb-true i t.crtcs on))
   named_told Plane i few on = rw (kind_of-object Plane i (omega arith)) (ap (λ (m : Mask). has_bit m.planes i) needs.named ∙ has_bit-zero i)
   named_told Conn i few on = rw (kind_of-object Conn i (omega arith)) (ap (λ (m : Mask). has_bit m.conns i) needs.named ∙ has_bit-zero i)
   named_told Enc i few on = absurd (false≢true on)
 
-  pub affected_told : (k : Kind) (i : ℕ) → i < 16 → is_lockable t k i ≡ true → is_member n.affected k i ≡ in_affected_group t w n.request.now (object_id k i)
-  affected_told Crtc i few on = rw (kind_of-object Crtc i (omega arith)) (ap (λ (m : Mask). has_bit m.crtcs i) needs.affected ∙ has_bit-zero i)
+  pub affected_told : (k : Kind) (i : ℕ) → i < 16 → is_lockable t k i ≡ true → is_member n.affected k i
+      ≡ in_affected_group t w n.request.now (object_id k i)
+  affected_told Crtc i few on = rw (kind_of-object Crtc i (omega arith))
+      (ap (λ (m : Mask). has_bit m.crtcs i) needs.affected ∙ has_bit-zero i)
   affected_told Plane i few on =
       rw (kind_of-object Plane i (omega arith))
-      (ap (λ (m : Mask). has_bit m.planes i) needs.affected ∙ has_bit-below (λ j. is_affected t w.things w.values (after w n.request.now) (object_id Plane j)) (length t.planes) i (ltb-true i (length t.planes) on))
+      (ap (λ (m : Mask). has_bit m.planes i) needs.affected ∙ has_bit-below
+      (λ j. is_affected t w.things w.values (after w n.request.now) (object_id Plane j)) (length t.planes) i
+      (ltb-true i (length t.planes) on))
   affected_told Conn i few on =
       rw (kind_of-object Conn i (omega arith))
-      (ap (λ (m : Mask). has_bit m.conns i) needs.affected ∙ has_bit-below (λ j. is_affected t w.things w.values (after w n.request.now) (object_id Conn j)) (length t.conns) i (ltb-true i (length t.conns) on))
+      (ap (λ (m : Mask). has_bit m.conns i) needs.affected ∙ has_bit-below
+      (λ j. is_affected t w.things w.values (after w n.request.now) (object_id Conn j)) (length t.conns) i
+      (ltb-true i (length t.conns) on))
   affected_told Enc i few on = absurd (false≢true on)
 
 -- what is touched, of the objects that have a lock
-pub touched_told : (t : Topology) (w : World) (n : Needs) (k : Kind) (i : ℕ) → AreNeeds t w n → IsDevice t → is_lockable t k i ≡ true → is_member n.touched k i ≡ touches t w n.request.now (object_id k i)
-touched_told t w n k i needs device on = ap (λ (m : Mask). is_member m k i) needs.touched ∙ touched-member t w n.request.now k i device (lockable_exists t k i on)
+pub touched_told : (t : Topology) (w : World) (n : Needs) (k : Kind) (i : ℕ) → AreNeeds t w n → IsDevice t → is_lockable t k i ≡ true
+    → is_member n.touched k i ≡ touches t w n.request.now (object_id k i)
+touched_told t w n k i needs device on = ap (λ (m : Mask). is_member m k i) needs.touched ∙ touched-member t w n.request.now k i device
+    (lockable_exists t k i on)
 
 -- an object that has a lock has a small index
 pub lockable_few : (t : Topology) (k : Kind) (i : ℕ) → IsDevice t → is_lockable t k i ≡ true → i < 16
@@ -93,10 +103,13 @@ pub affected_alike : (r : Run) (request : Request) (checked : Checked) → IsWel
 affected_alike r request checked formed history none is all =
     let t = r.script.topology in
     let w = world r in
-    let there : (i : ℕ) → i < t.crtcs → names w.values (after w request) request.assigns (object_id Crtc i) ≡ true → is_some (state_at checked.states.crtcs i) ≡ true =
+    let there : (i : ℕ) → i < t.crtcs → names w.values (after w request) request.assigns (object_id Crtc i) ≡ true
+    → is_some (state_at checked.states.crtcs i) ≡ true =
     λ i within named.
     (let bit : has_bit checked.touched.crtcs i ≡ true =
-    ap (λ (m : Mask). has_bit m.crtcs i) is.touched ∙ has_bit-below (λ j. touches_crtc w.values (after w request) request.assigns (object_id Crtc j)) t.crtcs i within ∙ or_right (sets request.assigns (object_id Crtc i)) _ named in
+    ap (λ (m : Mask). has_bit m.crtcs i) is.touched ∙ has_bit-below
+    (λ j. touches_crtc w.values (after w request) request.assigns (object_id Crtc j)) t.crtcs i within ∙ or_right
+    (sets request.assigns (object_id Crtc i)) _ named in
     let few = (few_objects t formed.device).crtcs in
     ap (λ (o : Option _). is_some o) (there_is checked.states.crtcs i) ∙ all.crtcs i (omega (arith, within, few)) bit) in
     ap (λ named. affected_below checked.states.crtcs named 4) is.named
@@ -114,7 +127,8 @@ only_crtcs crtcs = record { crtcs = crtcs; planes = 0; conns = 0 }
 pub needs_at : (v : Run) (client : ℕ) (n : Needs) (checked : Checked) → IsWellFormed v.script → is_history v.script v.steps ≡ true
     → Some n.request.now ≡ request_taken v.script (machine v) client → early_in v.script.topology (world v) n.request.now ≡ None
     → IsChecked v.script.topology (world v) n.request.now checked → HasStates checked
-    → n.named ≡ record { crtcs = checked.named; planes = 0; conns = 0 } → n.affected ≡ affected_below checked.states.crtcs checked.named 4 → n.touched ≡ checked.touched → NeedsLocks v client n
+    → n.named ≡ record { crtcs = checked.named; planes = 0; conns = 0 } → n.affected ≡ affected_below checked.states.crtcs checked.named 4
+    → n.touched ≡ checked.touched → NeedsLocks v client n
 needs_at v client n checked formed history taken none is all named_is affected_is touched_is =
     let q = n.request.now in
     record {
@@ -142,44 +156,58 @@ module _ (s : Script) (m : Machine) (client : ℕ) (r : Request) where
   unfolding may_lock
   own_held object held =
       and_right (taking_at s m client (λ q. reaches s.topology m.device.world q object)) _
-      (ap (is_free_or_older m (ticket_of (doing_at m client))) (value-is client (holder_at m object) held) ∙ le-ltb (ticket_of (doing_at m client)) (ticket_of (doing_at m client)) (omega arith))
+      (ap (is_free_or_older m (ticket_of (doing_at m client))) (value-is client (holder_at m object) held) ∙ le-ltb
+      (ticket_of (doing_at m client)) (ticket_of (doing_at m client)) (omega arith))
 
   -- what a client holds it may not ask for
   lock_apart : (b c : Bool) → (b ≡ true → c ≡ false) → c ≡ (not b && c)
   lock_apart true c off = off refl
   lock_apart false c off = refl
 
-  by_first : (a b : Bool) → cond a (opens group.Set) (cond b (opens group.Named) (opens group.Affected)) ≡ opens (cond a group.Set (cond b group.Named group.Affected))
+  by_first : (a b : Bool) → cond a (opens group.Set) (cond b (opens group.Named) (opens group.Affected))
+      ≡ opens (cond a group.Set (cond b group.Named group.Affected))
   by_first true b = refl
   by_first false true = refl
   by_first false false = refl
 
-  pub next_told : (g : Group) (first other : Option ℕ) → g ≡ first_lacked s.topology m client r → first ≡ opens g → other ≡ opens group.Any → or_else first other ≡ next_lock s m client r
+  pub next_told : (g : Group) (first other : Option ℕ) → g ≡ first_lacked s.topology m client r → first ≡ opens g → other ≡ opens group.Any
+      → or_else first other ≡ next_lock s m client r
   unfolding next_lock first_missing
   next_told g first other g_is first_is other_is =
       let p = may_lock s m client in
       let t = s.topology in
       let w = m.device.world in
       let some : find p (first_missing t m client r) ≡ opens (first_lacked t m client r) =
-      found_those p (missing group.Set) (lockable t) (or_those (missing_of t m client (in_named_group t w r)) (missing_of t m client (in_affected_group t w r)))
+      found_those p (missing group.Set) (lockable t)
+      (or_those (missing_of t m client (in_named_group t w r)) (missing_of t m client (in_affected_group t w r)))
       ∙ ap (cond (list_any (missing group.Set) (lockable t)) (opens group.Set))
       (found_those p (missing group.Named) (lockable t) (missing_of t m client (in_affected_group t w r))
-      ∙ ap (cond (list_any (missing group.Named) (lockable t)) (opens group.Named)) (found_filtered p (missing group.Affected) (lockable t)))
-      ∙ (λ i. cond (any_lockable t (missing group.Set) i) (opens group.Set) (cond (any_lockable t (missing group.Named) i) (opens group.Named) (opens group.Affected)))
+      ∙ ap (cond (list_any (missing group.Named) (lockable t)) (opens group.Named))
+      (found_filtered p (missing group.Affected) (lockable t)))
+      ∙ (λ i. cond (any_lockable t (missing group.Set) i) (opens group.Set)
+      (cond (any_lockable t (missing group.Named) i) (opens group.Named) (opens group.Affected)))
       ∙ by_first (lacks t m client r group.Set) (lacks t m client r group.Named) in
-      let any : find p (lockable t) ≡ opens group.Any = λ i. find (λ object. lock_apart (holds m client object) (p object) (own_held object) i) (lockable t) in
+      let any : find p (lockable t) ≡ opens group.Any = λ i. find
+      (λ object. lock_apart (holds m client object) (p object) (own_held object) i) (lockable t) in
       (λ i. or_else ((first_is ∙ ap opens g_is ∙ sym some) i) ((other_is ∙ sym any) i))
 
-  pub allowed_told : (k : Kind) (i : ℕ) (touched free : Bool) → Some r ≡ request_taken s m client → early_in s.topology m.device.world r ≡ None → touched ≡ touches s.topology m.device.world r (object_id k i)
-      → free ≡ is_free_or_older m (ticket_of (doing_at m client)) (holder_at m (object_id k i)) → (touched && free) ≡ may_lock s m client (object_id k i)
+  pub allowed_told : (k : Kind) (i : ℕ) (touched free : Bool) → Some r ≡ request_taken s m client → early_in s.topology m.device.world r
+      ≡ None → touched ≡ touches s.topology m.device.world r (object_id k i)
+      → free ≡ is_free_or_older m (ticket_of (doing_at m client)) (holder_at m (object_id k i)) → (touched && free)
+      ≡ may_lock s m client (object_id k i)
   unfolding may_lock
   allowed_told k i touched free taken none touched_is free_is =
       let takes = taken_parts s m client r taken in
-      let reached = touched_is ∙ sym (reach-is s.topology m.device.world r (object_id k i) none) ∙ sym (taking-is s m client (λ q. reaches s.topology m.device.world q (object_id k i)) r takes) in
+      let reached = touched_is ∙ sym (reach-is s.topology m.device.world r (object_id k i) none) ∙ sym
+      (taking-is s m client (λ q. reaches s.topology m.device.world q (object_id k i)) r takes) in
       (λ j. reached j && free_is j)
 
 -- the first of the objects that have a lock, kind by kind
-pub first_told : (t : Topology) (p : ℕ → Bool) (a b c : Option ℕ) → a ≡ find (λ i. p (object_id Crtc i)) (range_with_len 0 (count_of t Crtc))
-    → b ≡ find (λ i. p (object_id Plane i)) (range_with_len 0 (count_of t Plane)) → c ≡ find (λ i. p (object_id Conn i)) (range_with_len 0 (count_of t Conn))
-    → or_else (option_map (object_id Crtc) a) (or_else (option_map (object_id Plane) b) (option_map (object_id Conn) c)) ≡ find p (lockable t)
-first_told t p a b c a_is b_is c_is = (λ i. or_else (option_map (object_id Crtc) (a_is i)) (or_else (option_map (object_id Plane) (b_is i)) (option_map (object_id Conn) (c_is i)))) ∙ sym (found_lockable t p)
+pub first_told : (t : Topology) (p : ℕ → Bool) (a b c : Option ℕ) → a
+    ≡ find (λ i. p (object_id Crtc i)) (range_with_len 0 (count_of t Crtc))
+    → b ≡ find (λ i. p (object_id Plane i)) (range_with_len 0 (count_of t Plane)) → c
+    ≡ find (λ i. p (object_id Conn i)) (range_with_len 0 (count_of t Conn))
+    → or_else (option_map (object_id Crtc) a) (or_else (option_map (object_id Plane) b) (option_map (object_id Conn) c))
+    ≡ find p (lockable t)
+first_told t p a b c a_is b_is c_is = (λ i. or_else (option_map (object_id Crtc) (a_is i))
+    (or_else (option_map (object_id Plane) (b_is i)) (option_map (object_id Conn) (c_is i)))) ∙ sym (found_lockable t p)

@@ -15,7 +15,7 @@ use Rattle.kms_model.specs.Machine.Registers.{read}
 use Rattle.kms_model.specs.Machine.State.{Machine, command_at, doing_at, first_machine, place_at}
 use Rattle.kms_model.specs.Machine.Steps.{contended, is_taking, may_lock, must_back_off, returning_of, taking_at}
 use Rattle.kms_model.specs.Request.Reach.{reaches}
-use Rattle.kms_clients.specs.Standing.{first_place}
+use Rattle.kms_wwlock.specs.Standing.{first_place}
 use Rattle.kms_laws.proofs.Basics.{read_other}
 use Rattle.kms_laws.proofs.EachStep.{Carries, by_bool, by_fence, by_two, each_step, made_as, swapped_as, tails_leave}
 use Rattle.kms_laws.proofs.Steps.{along}
@@ -26,9 +26,11 @@ abbrev AreOutside : Script → List (ℕ × Place) → Type 0
 AreOutside s places = (client : ℕ) → IsOutside s client → read first_place places client ≡ first_place
 
 -- another client moves
-moved : (s : Script) (places : List (ℕ × Place)) (x : ℕ) (p : Place) → (IsOutside s x → ⊥) → AreOutside s places → AreOutside s ((x, p) ∷ places)
+moved : (s : Script) (places : List (ℕ × Place)) (x : ℕ) (p : Place) → (IsOutside s x → ⊥) → AreOutside s places
+    → AreOutside s ((x, p) ∷ places)
 moved s places x p inside all client away =
-    ⊎_elim (λ (same : x ≡ client). absurd (inside (subst (λ n. IsOutside s n) (sym same) away))) (λ apart. read_other first_place places x client p apart ∙ all client away) (cases_eq x client)
+    ⊎_elim (λ (same : x ≡ client). absurd (inside (subst (λ n. IsOutside s n) (sym same) away)))
+    (λ apart. read_other first_place places x client p apart ∙ all client away) (cases_eq x client)
 
 taking_busy : (d : Doing) → is_taking d ≡ true → d ≡ doing.Idle → ⊥
 taking_busy d taking idle = false≢true (ap is_taking (sym idle) ∙ taking)
@@ -51,14 +53,16 @@ module _ (s : Script) (m : Machine) (all : AreOutside s m.contexts.places) where
 
   lock_taking : (client object : ℕ) → may_lock s m client object ≡ true → is_taking (doing_at m client) ≡ true
   unfolding may_lock
-  lock_taking client object h = (and_parts (is_taking (doing_at m client)) _ (and_parts (taking_at s m client (λ r. reaches s.topology m.device.world r object)) _ h).0).0
+  lock_taking client object h = (and_parts (is_taking (doing_at m client)) _
+      (and_parts (taking_at s m client (λ r. reaches s.topology m.device.world r object)) _ h).0).0
 
   carries_outside : Carries s m (λ step n. AreOutside s n.contexts.places)
   carries_outside = record {
     locks = record {
       begins = λ client c e atomic idle. by_command client c e _;
       takes = λ client kind index is_there lock free. all;
-      meets = λ client kind index holder is_there lock held. by_doing client (taking_busy _ (lock_taking client (object_id kind index) lock)) _;
+      meets = λ client kind index holder is_there lock held. by_doing client
+          (taking_busy _ (lock_taking client (object_id kind index) lock)) _;
       backs = λ client back. by_doing client (back_busy _ back) _;
       relocks = λ client object asked free. by_doing client (contended_busy _ object asked) _;
       returned = λ client k e clean. by_doing client (returning_busy _ k e) _;
@@ -67,11 +71,14 @@ module _ (s : Script) (m : Machine) (all : AreOutside s m.contexts.places) where
       refuses = λ client r e taking may. by_command client _ e _;
       tests = λ client r e taking may. by_command client _ e _;
       swaps = λ client r e taking may b w eb ew.
-          by_two (λ b w. AreOutside s (swapped_as s.topology b w m client r).contexts.places) (by_command client _ e _) (by_command client _ e _) (by_command client _ e _) (by_command client _ e _) b w;
+          by_two (λ b w. AreOutside s (swapped_as s.topology b w m client r).contexts.places) (by_command client _ e _)
+          (by_command client _ e _) (by_command client _ e _) (by_command client _ e _) b w;
       makes = λ client c e making idle b eb.
-          by_bool (λ b. AreOutside s (made_as b m client (execute s.topology m.device.world client c)).contexts.places) (by_command client c e _) (by_command client c e _) b;
+          by_bool (λ b. AreOutside s (made_as b m client (execute s.topology m.device.world client c)).contexts.places)
+          (by_command client c e _) (by_command client c e _) b;
       signalled = λ client c e is_signal idle o.
-          by_fence (λ o. AreOutside s (goes_on (signals (answers m client (execute s.topology m.device.world client c).reply) o) client).contexts.places) (by_command client c e _) (λ fence. by_command client c e _) o;
+          by_fence (λ o. AreOutside s (goes_on (signals (answers m client (execute s.topology m.device.world client c).reply) o)
+          client).contexts.places) (by_command client c e _) (λ fence. by_command client c e _) o;
       read_none = λ client c e is_wait idle none. by_command client c e _;
       read_one = λ client c e is_wait idle event events some. by_command client c e _;
     };
@@ -79,8 +86,11 @@ module _ (s : Script) (m : Machine) (all : AreOutside s m.contexts.places) where
     stalled = λ h. all;
   }
 
-pub outside : (s : Script) (h : List Step) → is_history s h ≡ true → (client : ℕ) → IsOutside s client → place_at (at s h) client ≡ first_place
+pub outside : (s : Script) (h : List Step) → is_history s h ≡ true → (client : ℕ) → IsOutside s client → place_at (at s h) client
+    ≡ first_place
 unfolding read
 outside s h is =
-    along s (λ m. AreOutside s m.contexts.places) (λ m step all legal. each_step s m (λ step n. AreOutside s n.contexts.places) (carries_outside s m all) step legal) h (first_machine s.topology)
+    along s (λ m. AreOutside s m.contexts.places)
+    (λ m step all legal. each_step s m (λ step n. AreOutside s n.contexts.places) (carries_outside s m all) step legal) h
+    (first_machine s.topology)
     (λ client away. refl) is

@@ -29,14 +29,18 @@ presented r st stands =
       all = record { crtcs = states.whole.crtcs.there; planes = states.whole.planes.there; conns = states.whole.conns.there };
     }
 
-pub tells_now : (r : Run) (st : Stores) → Stands r st → TellSame (λ label. look_of (thing_labelled st.made.things label)) (look_up (world r))
+pub tells_now : (r : Run) (st : Stores) → Stands r st
+    → TellSame (λ label. look_of (thing_labelled st.made.things label)) (look_up (world r))
 tells_now r st stands label = ap (λ (things : List Thing). look_of (thing_labelled things label)) (sym stands.stores.world.things)
 
-pub tells_ever : (r : Run) (st : Stores) → Stands r st → TellSame (λ label. look_of_any (thing_labelled st.made.things label)) (look_up_any (world r))
+pub tells_ever : (r : Run) (st : Stores) → Stands r st
+    → TellSame (λ label. look_of_any (thing_labelled st.made.things label)) (look_up_any (world r))
 tells_ever r st stands label = ap (λ (things : List Thing). look_of_any (thing_labelled things label)) (sym stands.stores.world.things)
 
-pub somewhere_now : (r : Run) (st : Stores) → Stands r st → ArePresentSomewhere look_up r.script.topology (λ label. look_of (thing_labelled st.made.things label)) st.present
+pub somewhere_now : (r : Run) (st : Stores) → Stands r st
+    → ArePresentSomewhere look_up r.script.topology (λ label. look_of (thing_labelled st.made.things label)) st.present
 somewhere_now r st stands = record { world = world r; present = presented r st stands; tells = tells_now r st stands }
 
-pub somewhere_ever : (r : Run) (st : Stores) → Stands r st → ArePresentSomewhere look_up_any r.script.topology (λ label. look_of_any (thing_labelled st.made.things label)) st.present
+pub somewhere_ever : (r : Run) (st : Stores) → Stands r st
+    → ArePresentSomewhere look_up_any r.script.topology (λ label. look_of_any (thing_labelled st.made.things label)) st.present
 somewhere_ever r st stands = record { world = world r; present = presented r st stands; tells = tells_ever r st stands }

@@ -27,7 +27,8 @@ use Rattle.kms_model.specs.Device.World.{thing_labelled}
 use Rattle.kms_model.specs.Machine.Effects.{busy_reply, decided, next, refusal_reply, refused}
 use Rattle.kms_model.specs.Machine.Histories.{legal}
 use Rattle.kms_model.specs.Machine.State.{Machine, command_at, doing_at, request_at}
-use Rattle.kms_model.specs.Machine.Steps.{first_pending, holds_touched, is_busy, is_taking, lacks_space, may, may_refuse, may_swap, may_test, space_used, taking_at}
+use Rattle.kms_model.specs.Machine.Steps.{first_pending, holds_touched, is_busy, is_taking, lacks_space, may, may_refuse, may_swap}
+use Rattle.kms_model.specs.Machine.Steps.{may_test, space_used, taking_at}
 use Rattle.kms_model.specs.Request.Deciding.{IsChecked}
 use Rattle.kms_model.specs.Request.Flags.{is_test}
 use Rattle.kms_model.specs.Request.Lookups.{look_of, look_up, lookups}
@@ -42,7 +43,7 @@ use Rattle.kms_model.proofs.Items.{or_else-none}
 use Rattle.kms_model.proofs.MaskLemmas.{has_bit-mask_below}
 use Rattle.kms_model.proofs.RequestLemmas.{accepted_allowed, all_settable}
 use Rattle.kms_model.proofs.SameLooks.{world_tells}
-use Rattle.kms_clients.specs.Standing.{IsClient}
+use Rattle.kms_wwlock.specs.Standing.{IsClient}
 use Rattle.kms_laws.proofs.EachStep.{swap-found}
 use Rattle.kms_laws.proofs.Steps.{request-is}
 use Rattle.kms_laws.proofs.Steps as steps_of
@@ -68,12 +69,14 @@ use Rattle.kms_core.proofs.next.Taken.{Takes, taken_parts, taking-is}
 -- The early refusals
 
 early_is : (r : Run) (st : Stores) (request : Request) (o : Option Refusal) → Stands r st
-    → refusal_number o ≡ early_refusal r.script.topology (λ label. look_of (thing_labelled st.made.things label)) request → early_in r.script.topology (world r) request ≡ refusal_number o
+    → refusal_number o ≡ early_refusal r.script.topology (λ label. look_of (thing_labelled st.made.things label)) request
+    → early_in r.script.topology (world r) request ≡ refusal_number o
 early_is r st request o stands first =
     let looks : (λ label. look_of (thing_labelled st.made.things label)) ≡ look_up (world r) = λ i label. tells_now r st stands label i in
     ap (λ g. early_refusal r.script.topology g request) (sym looks) ∙ sym first
 
-early_replied : (s : Script) (m : Machine) (client : ℕ) (request : Request) (why : Refusal) → early_in s.topology m.device.world request ≡ Some why.0
+early_replied : (s : Script) (m : Machine) (client : ℕ) (request : Request) (why : Refusal) → early_in s.topology m.device.world request
+    ≡ Some why.0
     → reply.Refused why ≡ refusal_reply s.topology m client request (verdict s.topology m.device.world request)
 unfolding verdict
 early_replied s m client request why is = rw is refl
@@ -82,30 +85,37 @@ pub refused_early : (r v : Run) (st : Stores) (client : ℕ) (request : Request)
     → refusal_number (Some why) ≡ early_refusal r.script.topology (λ label. look_of (thing_labelled st.made.things label)) request
     → reply.Refused why ≡ refusal_reply v.script.topology (machine v) client request (verdict v.script.topology (world v) request)
 refused_early r v st client request why stands same first =
-    subst (λ (w : Run). reply.Refused why ≡ refusal_reply w.script.topology (machine w) client request (verdict w.script.topology (world w) request)) same
+    subst (λ (w : Run). reply.Refused why ≡ refusal_reply w.script.topology (machine w) client request
+    (verdict w.script.topology (world w) request)) same
     (early_replied r.script (machine r) client request why (early_is r st request (Some why) stands first))
 
 -- one of these is due where nothing more is told
 pub judged_some : (r v : Run) (st : Stores) (client : ℕ) (request : Request) → Stands r st → r ≡ v
-    → refusal_number None ≡ early_refusal r.script.topology (λ label. look_of (thing_labelled st.made.things label)) request → IsJudged v.script.topology (machine v) client request None → ⊥
+    → refusal_number None ≡ early_refusal r.script.topology (λ label. look_of (thing_labelled st.made.things label)) request
+    → IsJudged v.script.topology (machine v) client request None → ⊥
 judged_some r v st client request stands same first told =
-    let now : is_some (early_in r.script.topology (world r) request) ≡ true = subst (λ (w : Run). IsJudged w.script.topology (machine w) client request None) (sym same) told in
+    let now : is_some (early_in r.script.topology (world r) request)
+    ≡ true = subst (λ (w : Run). IsJudged w.script.topology (machine w) client request None) (sym same) told in
     false≢true (sym (ap (λ (n : Option ℕ). is_some n) (early_is r st request None stands first)) ∙ now)
 
 -- The others
 
 module _ (s : Script) (m : Machine) (client : ℕ) (request : Request) (j : Judged) (told : IsJudgedLate s.topology m client request j) where
-  pub refused_late : (why : Refusal) → j.late ≡ Some why → reply.Refused why ≡ refusal_reply s.topology m client request (verdict s.topology m.device.world request)
+  pub refused_late : (why : Refusal) → j.late ≡ Some why → reply.Refused why
+      ≡ refusal_reply s.topology m client request (verdict s.topology m.device.world request)
   unfolding verdict
   refused_late why is =
       let late : late_in s.topology m.device.world request ≡ Some why.0 = sym told.late ∙ ap refusal_number is in
       rw (told.none, late) refl
 
-  pub refused_last : (given : Reply) → j.late ≡ None → j.hindered ≡ Some given → given ≡ refusal_reply s.topology m client request (verdict s.topology m.device.world request)
+  pub refused_last : (given : Reply) → j.late ≡ None → j.hindered ≡ Some given → given
+      ≡ refusal_reply s.topology m client request (verdict s.topology m.device.world request)
   unfolding verdict
   refused_last given none is =
       let late : late_in s.topology m.device.world request ≡ None = sym told.late ∙ ap refusal_number none in
-      let parts = late_parts (lacks_space s.topology m client request) (is_busy s.topology m request) (reply.Space (space_used m.events client)) (busy_reply s.topology m (first_pending s.topology m request)) given (sym told.hindered ∙ is) in
+      let parts = late_parts (lacks_space s.topology m client request) (is_busy s.topology m request)
+      (reply.Space (space_used m.events client)) (busy_reply s.topology m (first_pending s.topology m request)) given
+      (sym told.hindered ∙ is) in
       rw (told.none, late) (sym parts.1)
 
   off : (holds test : Bool) → (holds && (false || (not test && false))) ≡ false
@@ -118,7 +128,8 @@ module _ (s : Script) (m : Machine) (client : ℕ) (request : Request) (j : Judg
       let told_so = refuse_late s m client request taken j told (is_test request.flags) refl in
       let neither : (j.holds && (false || (not (is_test request.flags) && false))) ≡ true =
       ap (λ b. j.holds && (b || (not (is_test request.flags) && false))) (sym (ap (λ (o : Option Refusal). is_some o) none))
-      ∙ ap (λ b. j.holds && (is_some j.late || (not (is_test request.flags) && b))) (sym (ap (λ (o : Option Reply). is_some o) other)) ∙ told_so ∙ is in
+      ∙ ap (λ b. j.holds && (is_some j.late || (not (is_test request.flags) && b))) (sym (ap (λ (o : Option Reply). is_some o) other)) ∙
+      told_so ∙ is in
       false≢true (sym (off j.holds (is_test request.flags)) ∙ neither)
 
 -- Accepted requests
@@ -127,16 +138,19 @@ module _ (s : Script) (m : Machine) (client : ℕ) (request : Request) (j : Judg
 all_states : (t : Topology) (w : World) (request : Request) (checked : Checked) → StandBetween t w request checked.states
     → checked.touched ≡ touched_by t w request → HasStates checked
 all_states t w request checked stand touched = record {
-  crtcs = λ i few has. there_at checked.states.crtcs i (stand.all.crtcs i (within Crtc (λ (m : Mask). m.crtcs) i _ (has_bit-mask_below _ (count_of t Crtc) i) has));
+  crtcs = λ i few has. there_at checked.states.crtcs i
+      (stand.all.crtcs i (within Crtc (λ (m : Mask). m.crtcs) i _ (has_bit-mask_below _ (count_of t Crtc) i) has));
   planes = λ i few has. there_at checked.states.planes i
       (stand.all.planes i (within Plane (λ (m : Mask). m.planes) i _ (has_bit-mask_below _ (count_of t Plane) i) has));
   conns = λ i few has. there_at checked.states.conns i
       (stand.all.conns i (within Conn (λ (m : Mask). m.conns) i _ (has_bit-mask_below _ (count_of t Conn) i) has));
 }
   where
-    within : (kind : Kind) (part : Mask → ℕ) (i : ℕ) (test : Bool) → has_bit (part (touched_by t w request)) i ≡ (nat_lt i (count_of t kind) && test) → has_bit (part checked.touched) i ≡ true → i < count_of t kind
+    within : (kind : Kind) (part : Mask → ℕ) (i : ℕ) (test : Bool) → has_bit (part (touched_by t w request)) i
+        ≡ (nat_lt i (count_of t kind) && test) → has_bit (part checked.touched) i ≡ true → i < count_of t kind
     within kind part i test is has =
-        ltb-true i (count_of t kind) (and_parts (nat_lt i (count_of t kind)) test (sym is ∙ sym (ap (λ m. has_bit (part m) i) touched) ∙ has)).0
+        ltb-true i (count_of t kind) (and_parts (nat_lt i (count_of t kind)) test
+        (sym is ∙ sym (ap (λ m. has_bit (part m) i) touched) ∙ has)).0
 
 pub settable_now : (r : Run) (request : Request) → IsWellFormed r.script → early_in r.script.topology (world r) request ≡ None
     → All IsSettable request.assigns
@@ -145,7 +159,8 @@ settable_now r request formed none =
     all_settable t (look_up (world r)) request.assigns (and_parts (keeps_limits t) _ formed.device.legal).0
     (accepted_allowed t (look_up (world r)) request none)
 
-pub early_at : (r v : Run) (request : Request) → r ≡ v → early_in v.script.topology (world v) request ≡ None → early_in r.script.topology (world r) request ≡ None
+pub early_at : (r v : Run) (request : Request) → r ≡ v → early_in v.script.topology (world v) request ≡ None
+    → early_in r.script.topology (world r) request ≡ None
 early_at r v request same none = subst (λ (w : Run). early_in w.script.topology (world w) request ≡ None) (sym same) none
 
 -- what is given of the states after a request
@@ -154,8 +169,11 @@ pub record IsSpanned (r : Run) (request : Request) (checked : Checked) : Type 0 
   pub named : checked.named ≡ named_by r.script.topology (world r) request
   pub touched : checked.touched ≡ touched_by r.script.topology (world r) request
 
-pub spanned : (r : Run) (st : Stores) (request : Request) (states : Duplicates) (spans : ℕ × Mask) → Stands r st → early_in r.script.topology (world r) request ≡ None
-    → ((w : World) → ArePresent r.script.topology w st.present → TellSame (λ label. look_of (thing_labelled st.made.things label)) (look_up w) → early_in r.script.topology w request ≡ None → StandBetween r.script.topology w request states)
+pub spanned : (r : Run) (st : Stores) (request : Request) (states : Duplicates) (spans : ℕ × Mask) → Stands r st
+    → early_in r.script.topology (world r) request ≡ None
+    → ((w : World) → ArePresent r.script.topology w st.present
+    → TellSame (λ label. look_of (thing_labelled st.made.things label)) (look_up w) → early_in r.script.topology w request ≡ None
+    → StandBetween r.script.topology w request states)
     → ((t : Topology) (w : World) → StandBetween t w request states → spans.0 ≡ named_by t w request)
     → ((t : Topology) (w : World) → StandBetween t w request states → spans.1 ≡ touched_by t w request)
     → IsSpanned r request (record { states = states; named = spans.0; touched = spans.1 })
@@ -163,7 +181,8 @@ spanned r st request states spans stands none between named touched =
     let stand = between (world r) (presented r st stands) (tells_now r st stands) none in
     record { stand = stand; named = named r.script.topology (world r) stand; touched = touched r.script.topology (world r) stand }
 
-pub checked_now : (r v : Run) (request : Request) (checked : Checked) → r ≡ v → IsSpanned r request checked → IsChecked v.script.topology (world v) request checked
+pub checked_now : (r v : Run) (request : Request) (checked : Checked) → r ≡ v → IsSpanned r request checked
+    → IsChecked v.script.topology (world v) request checked
 checked_now r v request checked same spans =
     subst (λ (w : Run). IsChecked w.script.topology (world w) request checked) same
     (record { old = spans.stand.old; new = spans.stand.new; named = spans.named; touched = spans.touched })
@@ -193,7 +212,8 @@ takes_some r client test formed h = by (request_at r.script (machine r) client) 
         (request-is (command_at r.script (machine r) client) q e));
   }
 
-may_of : (r : Run) (step : Step) → legal r.script (machine r) step ≡ true → (not (machine r).stalled && may r.script (machine r) step) ≡ legal r.script (machine r) step → may r.script (machine r) step ≡ true
+may_of : (r : Run) (step : Step) → legal r.script (machine r) step ≡ true → (not (machine r).stalled && may r.script (machine r) step)
+    ≡ legal r.script (machine r) step → may r.script (machine r) step ≡ true
 may_of r step is same = (and_parts (not (machine r).stalled) (may r.script (machine r) step) (same ∙ is)).1
 
 pub may_refuse_now : (v : Run) (client : ℕ) → IsLegal v (step.Refuse client) → may v.script (machine v) (step.Refuse client) ≡ true
@@ -219,7 +239,8 @@ decides_test v client formed is =
 
 pub decides_refuse : (v : Run) (client : ℕ) (request : Request) (given : Reply) → IsWellFormed v.script → IsLegal v (step.Refuse client)
     → Some request ≡ request_taken v.script (machine v) client
-    → given ≡ refusal_reply v.script.topology (machine v) client request (verdict v.script.topology (world v) request) → Decides v client (step.Refuse client) given
+    → given ≡ refusal_reply v.script.topology (machine v) client request (verdict v.script.topology (world v) request)
+    → Decides v client (step.Refuse client) given
 unfolding legal may next refused
 decides_refuse v client request given formed is taken told =
     let takes = takes_some v client (may_refuse v.script.topology (machine v) client) formed (and_parts (not (machine v).stalled) _ is).1 in
@@ -237,15 +258,21 @@ pub record IsSwapped (v : Run) (client : ℕ) (request : Request) : Type 0 where
   pub held : holds_touched v.script.topology (machine v) client request ≡ true
   pub none : verdict v.script.topology (world v) request ≡ None
 
-swap_parts : (v : Run) (client : ℕ) (request : Request) → IsLegal v (step.Swap client) → Takes v.script (machine v) client request → IsSwapped v client request
+swap_parts : (v : Run) (client : ℕ) (request : Request) → IsLegal v (step.Swap client) → Takes v.script (machine v) client request
+    → IsSwapped v client request
 unfolding may
 swap_parts v client request is takes =
-    let found = swap-found v.script.topology (machine v) client request (sym (taking-is v.script (machine v) client (may_swap v.script.topology (machine v) client) request takes) ∙ may_swap_now v client is) in
+    let found = swap-found v.script.topology (machine v) client request
+    (sym (taking-is v.script (machine v) client (may_swap v.script.topology (machine v) client) request takes) ∙ may_swap_now v client
+    is) in
     record { no_test = found.no_test; held = found.held; none = found.accepted }
 
-pub swap_early_none : (v : Run) (client : ℕ) (request : Request) → IsLegal v (step.Swap client) → Some request ≡ request_taken v.script (machine v) client → early_in v.script.topology (world v) request ≡ None
+pub swap_early_none : (v : Run) (client : ℕ) (request : Request) → IsLegal v (step.Swap client) → Some request
+    ≡ request_taken v.script (machine v) client → early_in v.script.topology (world v) request ≡ None
 unfolding verdict
-swap_early_none v client request is taken = (or_else-none (early_in v.script.topology (world v) request) (late_in v.script.topology (world v) request) (swap_parts v client request is (taken_parts v.script (machine v) client request taken)).none).first_none
+swap_early_none v client request is taken = (or_else-none (early_in v.script.topology (world v) request)
+    (late_in v.script.topology (world v) request)
+    (swap_parts v client request is (taken_parts v.script (machine v) client request taken)).none).first_none
 
 going_now : (v : Run) (client : ℕ) → IsLegal v (step.Swap client) → (machine v).stalled ≡ false
 unfolding legal
@@ -280,8 +307,10 @@ commits_now v client request checked resolved formed is taken as_checked states 
 
 -- What a request that is accepted asks for
 
-tells_found : (v : Run) (request : Request) (found : List (ℕ × Look)) → found ≡ lookups (world v) request → TellsLabels (look_in found) (look_up (world v)) request.assigns
-tells_found v request found is = subst (λ (l : List (ℕ × Look)). TellsLabels (look_in l) (look_up (world v)) request.assigns) (sym is) (world_tells (world v) request)
+tells_found : (v : Run) (request : Request) (found : List (ℕ × Look)) → found ≡ lookups (world v) request
+    → TellsLabels (look_in found) (look_up (world v)) request.assigns
+tells_found v request found is = subst (λ (l : List (ℕ × Look)). TellsLabels (look_in l) (look_up (world v)) request.assigns) (sym is)
+    (world_tells (world v) request)
 
 pub resolved_now : (s : Script) (v : Run) (request : Request) (found : List (ℕ × Look)) (resolved : Resolved) → s ≡ v.script
     → found ≡ lookups (world v) request

@@ -16,13 +16,16 @@ use Rattle.kms_core.proofs.stores.Histories.{goes_on, told_anew}
 use Rattle.kms_core.proofs.stores.FirstTails.{nothing_found, nothing_further, something_found}
 
 -- the history is ended
-pub stalls : (r v : Run) (st : Stores) (before steps : List Step) → Stands r st → r ≡ v → legal v.script (machine v) step.Stall ≡ true → before ≡ r.steps → steps ≡ before ++ step.Stall ∷ [] → Stands (record { script = r.script; steps = steps }) (record st { stalled = true })
+pub stalls : (r v : Run) (st : Stores) (before steps : List Step) → Stands r st → r ≡ v → legal v.script (machine v) step.Stall ≡ true
+    → before ≡ r.steps → steps ≡ before ++ step.Stall ∷ []
+    → Stands (record { script = r.script; steps = steps }) (record st { stalled = true })
 unfolding next
 stalls r v st before steps stands same asked is more =
     goes_on r st (record st { stalled = true }) step.Stall refl refl refl steps
     (more ∙ ap (λ (xs : List Step). xs ++ step.Stall ∷ []) is) stands
     (subst (λ (w : Run). legal w.script (machine w) step.Stall ≡ true) (sym same) asked)
-    (told_anew r.script (machine r) st (machine r).contexts (machine r).records.replies true st.clients st.replies st.latches st.freed true stands.stores.clients stands.stores.recorded refl stands.stores)
+    (told_anew r.script (machine r) st (machine r).contexts (machine r).records.replies true st.clients st.replies st.latches st.freed true
+    stands.stores.clients stands.stores.recorded refl stands.stores)
 
 -- Commits
 
@@ -31,10 +34,12 @@ module _ (r v : Run) (st : Stores) (stands : Stands r st) (same : r ≡ v) where
   awaited k = awaited_by v.script.topology (machine v) k
 
   claimed_awaits : (k : ℕ) → is_claimed (machine r).device k ≡ true → awaited k ≡ None
-  claimed_awaits k claimed = subst (λ (w : Run). awaited_by w.script.topology (machine w) k ≡ None) same (cond-true (is_claimed (machine r).device k) None _ claimed)
+  claimed_awaits k claimed = subst (λ (w : Run). awaited_by w.script.topology (machine w) k ≡ None) same
+      (cond-true (is_claimed (machine r).device k) None _ claimed)
 
   cleaned_awaits : (k : ℕ) → has_number (machine r).device.marks.cleaned k ≡ true → awaited k ≡ None
-  cleaned_awaits k clean = (let marks = (facts r st stands).holds.tail.marks in claimed_awaits k (marks.done k (marks.clean_done k clean)).0)
+  cleaned_awaits k clean = (let marks = (facts r st stands).holds.tail.marks
+      in claimed_awaits k (marks.done k (marks.clean_done k clean)).0)
 
   -- The least commit
 
@@ -51,13 +56,18 @@ module _ (r v : Run) (st : Stores) (stands : Stands r st) (same : r ≡ v) where
   awaits_none = nothing_found ℕ r v st stands same awaited cleaned_awaits
 
 module _ (v : Run) where
-  pub told_label : (fence : ℕ) → is_dead v.script (machine v) ≡ true → Some fence ≡ first_some (awaited_by v.script.topology (machine v)) (commit_numbers (machine v)) → label_of_thing (thing_with_id (machine v).device.world.things fence) ≡ stalled_on v.script (machine v)
+  pub told_label : (fence : ℕ) → is_dead v.script (machine v) ≡ true → Some fence
+      ≡ first_some (awaited_by v.script.topology (machine v)) (commit_numbers (machine v))
+      → label_of_thing (thing_with_id (machine v).device.world.things fence) ≡ stalled_on v.script (machine v)
   unfolding awaited_label
-  told_label fence dead is = sym (cond-true (is_dead v.script (machine v)) (awaited_label v.script.topology (machine v)) None dead ∙ (rw (sym is) refl))
+  told_label fence dead is = sym (cond-true (is_dead v.script (machine v)) (awaited_label v.script.topology (machine v)) None dead ∙
+      (rw (sym is) refl))
 
-  pub told_none : is_dead v.script (machine v) ≡ true → None ≡ first_some (awaited_by v.script.topology (machine v)) (commit_numbers (machine v)) → None ≡ stalled_on v.script (machine v)
+  pub told_none : is_dead v.script (machine v) ≡ true → None
+      ≡ first_some (awaited_by v.script.topology (machine v)) (commit_numbers (machine v)) → None ≡ stalled_on v.script (machine v)
   unfolding awaited_label
-  told_none dead is = sym (cond-true (is_dead v.script (machine v)) (awaited_label v.script.topology (machine v)) None dead ∙ (rw (sym is) refl))
+  told_none dead is = sym (cond-true (is_dead v.script (machine v)) (awaited_label v.script.topology (machine v)) None dead ∙
+      (rw (sym is) refl))
 
   pub told_going : is_dead v.script (machine v) ≡ false → None ≡ stalled_on v.script (machine v)
   told_going going = sym (cond-false (is_dead v.script (machine v)) (awaited_label v.script.topology (machine v)) None going)

@@ -57,7 +57,8 @@ module _ (r v : Run) (st : Stores) (k : ℕ) (stands : Stands r st) (same : r �
   -- a commit that has no tail is cleaned, or was not set up
   absent : (step : Step) → commit_of_tail_step step ≡ Some k → None ≡ value_with_id st.tracker.tails.slots k
       → legal r.script (going (machine r)) step ≡ may r.script (machine r) step
-      → (has_number (machine r).device.marks.cleaned k ≡ true → may r.script (machine r) step ≡ false) → false ≡ may v.script (machine v) step
+      → (has_number (machine r).device.marks.cleaned k ≡ true → may r.script (machine r) step ≡ false) → false
+      ≡ may v.script (machine v) step
   absent step of_commit gone is_legal cleaned =
       sym
       (elim (cases_lt k (length (machine r).device.commits)) [
@@ -78,13 +79,15 @@ module _ (r v : Run) (st : Stores) (k : ℕ) (stands : Stands r st) (same : r �
       let l = is_left x found in
       let d = (machine r).device in
       ap (λ b. b && (exists r.script.topology kind index && has_value (object_id kind index) (next_write_of x))) l.is.progress.claimed
-      ∙ ap (λ o. is_claimed d k && (exists r.script.topology kind index && has_value (object_id kind index) o)) (write_is r.script.topology d (machine r).records.latches k x stands.formed.device l.is)
+      ∙ ap (λ o. is_claimed d k && (exists r.script.topology kind index && has_value (object_id kind index) o))
+      (write_is r.script.topology d (machine r).records.latches k x stands.formed.device l.is)
       ∙ ap (λ (w : Run). may w.script (machine w) (step.Write k kind index)) same
 
   pub write_absent : (kind : Kind) (index : ℕ) → None ≡ value_with_id st.tracker.tails.slots k
       → false ≡ may v.script (machine v) (step.Write k kind index)
   unfolding may legal
-  write_absent kind index gone = absent (step.Write k kind index) refl gone refl (λ clean. no_write r.script (machine r) (facts r st stands).holds k clean kind index)
+  write_absent kind index gone = absent (step.Write k kind index) refl gone refl
+      (λ clean. no_write r.script (machine r) (facts r st stands).holds k clean kind index)
 
   pub flush_told : (x : Tail) (kind : Kind) (index : ℕ) → Some x ≡ value_with_id st.tracker.tails.slots k
       → flushes_next r.script.topology x kind index ≡ may v.script (machine v) (step.Flush k kind index)
@@ -92,14 +95,18 @@ module _ (r v : Run) (st : Stores) (k : ℕ) (stands : Stands r st) (same : r �
   flush_told x kind index found =
       let l = is_left x found in
       let d = (machine r).device in
-      ap (λ b. b && (exists r.script.topology kind index && has_value (object_id kind index) (option_map (object_id Crtc) (next_flush_of x)))) (written_is r.script.topology d (machine r).records.latches k x stands.formed.device l.is)
-      ∙ ap (λ o. is_all_written r.script.topology d k && (exists r.script.topology kind index && has_value (object_id kind index) o)) (flush_is r.script.topology d (machine r).records.latches k x stands.formed.device l.is)
+      ap (λ b. b && (exists r.script.topology kind index
+      && has_value (object_id kind index) (option_map (object_id Crtc) (next_flush_of x))))
+      (written_is r.script.topology d (machine r).records.latches k x stands.formed.device l.is)
+      ∙ ap (λ o. is_all_written r.script.topology d k && (exists r.script.topology kind index && has_value (object_id kind index) o))
+      (flush_is r.script.topology d (machine r).records.latches k x stands.formed.device l.is)
       ∙ ap (λ (w : Run). may w.script (machine w) (step.Flush k kind index)) same
 
   pub flush_absent : (kind : Kind) (index : ℕ) → None ≡ value_with_id st.tracker.tails.slots k
       → false ≡ may v.script (machine v) (step.Flush k kind index)
   unfolding may legal
-  flush_absent kind index gone = absent (step.Flush k kind index) refl gone refl (λ clean. no_flush r.script (machine r) (facts r st stands).holds k clean kind index)
+  flush_absent kind index gone = absent (step.Flush k kind index) refl gone refl
+      (λ clean. no_flush r.script (machine r) (facts r st stands).holds k clean kind index)
 
   pub done_told : (x : Tail) → Some x ≡ value_with_id st.tracker.tails.slots k → ends_next x ≡ may v.script (machine v) (step.HwDone k)
   unfolding may
@@ -107,9 +114,12 @@ module _ (r v : Run) (st : Stores) (k : ℕ) (stands : Stands r st) (same : r �
       let l = is_left x found in
       let d = (machine r).device in
       ap (λ b. b && (is_none (next_write_of x) && (is_none (next_flush_of x) && not x.progress.done))) l.is.progress.claimed
-      ∙ ap (λ b. is_claimed d k && (b && (is_none (next_flush_of x) && not x.progress.done))) (written_is r.script.topology d (machine r).records.latches k x stands.formed.device l.is)
-      ∙ ap (λ b. is_claimed d k && (is_all_written r.script.topology d k && (b && not x.progress.done))) (all_flushed_is r.script.topology d (machine r).records.latches k x stands.formed.device l.is)
-      ∙ ap (λ b. is_claimed d k && (is_all_written r.script.topology d k && (is_all_flushed r.script.topology d k && not b))) l.is.progress.done
+      ∙ ap (λ b. is_claimed d k && (b && (is_none (next_flush_of x) && not x.progress.done)))
+      (written_is r.script.topology d (machine r).records.latches k x stands.formed.device l.is)
+      ∙ ap (λ b. is_claimed d k && (is_all_written r.script.topology d k && (b && not x.progress.done)))
+      (all_flushed_is r.script.topology d (machine r).records.latches k x stands.formed.device l.is)
+      ∙ ap (λ b. is_claimed d k && (is_all_written r.script.topology d k && (is_all_flushed r.script.topology d k && not b)))
+      l.is.progress.done
       ∙ ap (λ (w : Run). may w.script (machine w) (step.HwDone k)) same
 
   pub done_absent : None ≡ value_with_id st.tracker.tails.slots k → false ≡ may v.script (machine v) (step.HwDone k)
@@ -170,12 +180,17 @@ crtc_kind t Conn index is = absurd (false≢true is)
 crtc_kind t Enc index is = absurd (false≢true is)
 
 module _ (v : Run) (kind : Kind) (index : ℕ) where
-  pub blank_told : is_crtc_of v.script.topology kind index ≡ true → (is_some (go_at (machine v).device (object_id Crtc index)) || is_on_in (machine v).device.live (object_id Crtc index)) ≡ may v.script (machine v) (step.Vblank kind index)
+  pub blank_told : is_crtc_of v.script.topology kind index ≡ true
+      → (is_some (go_at (machine v).device (object_id Crtc index)) || is_on_in (machine v).device.live (object_id Crtc index))
+      ≡ may v.script (machine v) (step.Vblank kind index)
   unfolding may
   blank_told is =
-      ap (λ (k : Kind). is_some (go_at (machine v).device (object_id k index)) || is_on_in (machine v).device.live (object_id k index)) (sym (crtc_kind v.script.topology kind index is))
-      ∙ ap (λ b. b && (is_some (go_at (machine v).device (object_id kind index)) || is_on_in (machine v).device.live (object_id kind index))) (sym is)
+      ap (λ (k : Kind). is_some (go_at (machine v).device (object_id k index)) || is_on_in (machine v).device.live (object_id k index))
+      (sym (crtc_kind v.script.topology kind index is))
+      ∙ ap (λ b. b && (is_some (go_at (machine v).device (object_id kind index))
+      || is_on_in (machine v).device.live (object_id kind index))) (sym is)
 
   pub blank_other : is_crtc_of v.script.topology kind index ≡ false → false ≡ may v.script (machine v) (step.Vblank kind index)
   unfolding may
-  blank_other other = ap (λ b. b && (is_some (go_at (machine v).device (object_id kind index)) || is_on_in (machine v).device.live (object_id kind index))) (sym other)
+  blank_other other = ap (λ b. b && (is_some (go_at (machine v).device (object_id kind index))
+      || is_on_in (machine v).device.live (object_id kind index))) (sym other)

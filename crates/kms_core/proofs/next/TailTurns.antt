@@ -1,5 +1,6 @@
 -- The next step of a tail in the order of one thread.
-use Rattle.std.proofs.Common.{◌≡◌, ℕ, zero, suc, ◌+◌, ◌<◌, ◌≤◌, Bool, true, false, [], ◌∷◌, ◌++◌, map, cond, Option, Some, None, inl, inr, refl, sym, ap, ◌∙◌, subst, arith}
+use Rattle.std.proofs.Common.{◌≡◌, ℕ, zero, suc, ◌+◌, ◌<◌, ◌≤◌, Bool, true, false, [], ◌∷◌, ◌++◌, map, cond, Option, Some, None, inl, inr}
+use Rattle.std.proofs.Common.{refl, sym, ap, ◌∙◌, subst, arith}
 use Rattle.std.specs.Prelude.{◌&&◌, filter, find, is_some, not}
 use Rattle.std.specs.List.{range_with_len}
 use Rattle.std.specs.Option.{option_map}
@@ -32,11 +33,13 @@ use Rattle.kms_core.proofs.next.Movers.{able, goes_able}
 pub ended_unable : (r : Run) (st : Stores) → Stands r st → (machine r).stalled ≡ true → can_move r.script (machine r) ≡ false
 unfolding is_dead
 ended_unable r st stands ended =
-    over-unable r.script (machine r) (history_along r.script r.steps (plain-from r.script stands.formed) stands.history) (inr (or_left (machine r).stalled _ ended))
+    over-unable r.script (machine r) (history_along r.script r.steps (plain-from r.script stands.formed) stands.history)
+    (inr (or_left (machine r).stalled _ ended))
 
 pub settle_ended : (r v : Run) (st : Stores) → Stands r st → r ≡ v → st.stalled ≡ true → None ≡ tail_step v.script (machine v)
 settle_ended r v st stands same ended =
-    sym (unable-quiet r.script (machine r) (ended_unable r st stands (stands.stores.ended ∙ ended))).tails ∙ ap (λ (w : Run). tail_step w.script (machine w)) same
+    sym (unable-quiet r.script (machine r) (ended_unable r st stands (stands.stores.ended ∙ ended))).tails ∙ ap
+    (λ (w : Run). tail_step w.script (machine w)) same
 
 -- Tails
 
@@ -44,9 +47,12 @@ settle_ended r v st stands same ended =
 abbrev pub first_of : Run → ℕ → Option Step
 first_of r k = find (able r) (steps_of_commit r.script.topology k)
 
-pub cleaned_none : (r v : Run) (st : Stores) → Stands r st → r ≡ v → (k : ℕ) → has_number (machine r).device.marks.cleaned k ≡ true → first_of v k ≡ None
+pub cleaned_none : (r v : Run) (st : Stores) → Stands r st → r ≡ v → (k : ℕ) → has_number (machine r).device.marks.cleaned k ≡ true
+    → first_of v k ≡ None
 cleaned_none r v st stands same k clean =
-    subst (λ (w : Run). first_of w k ≡ None) same (find-none (able r) (steps_of_commit r.script.topology k) (λ step is. no_step r.script (machine r) (facts r st stands).holds k clean step is))
+    subst (λ (w : Run). first_of w k ≡ None) same
+    (find-none (able r) (steps_of_commit r.script.topology k)
+    (λ step is. no_step r.script (machine r) (facts r st stands).holds k clean step is))
 
 -- a test's first steps of a commit, kind by kind
 abbrev by_kinds : (Step → Bool) → Topology → ℕ → Option Step
@@ -54,7 +60,8 @@ by_kinds p t k =
     cond (p (step.Claim k)) (Some (step.Claim k))
     (or_else (option_map (step.Write k Crtc) (find (λ i. p (step.Write k Crtc i)) (range_with_len 0 (count_of t Crtc))))
     (or_else (option_map (step.Write k Plane) (find (λ i. p (step.Write k Plane i)) (range_with_len 0 (count_of t Plane))))
-    (or_else (option_map (step.Flush k Crtc) (find (λ i. p (step.Flush k Crtc i)) (range_with_len 0 (count_of t Crtc)))) (find p (step.HwDone k ∷ step.Cleanup k ∷ [])))))
+    (or_else (option_map (step.Flush k Crtc) (find (λ i. p (step.Flush k Crtc i)) (range_with_len 0 (count_of t Crtc))))
+    (find p (step.HwDone k ∷ step.Cleanup k ∷ [])))))
 
 found_by_kinds : (p : Step → Bool) (t : Topology) (k : ℕ) → find p (steps_of_commit t k) ≡ by_kinds p t k
 found_by_kinds p t k =
@@ -79,12 +86,16 @@ pub record FoundOf (r : Run) (k : ℕ) (may_claim : Bool) (of_crtcs of_planes of
   pub flush : of_flushes ≡ find (λ i. able r (step.Flush k Crtc i)) (range_with_len 0 (count_of r.script.topology Crtc))
   pub last : at_end ≡ find (able r) (step.HwDone k ∷ step.Cleanup k ∷ [])
 
-pub first_told : (r : Run) (k : ℕ) (claim : Bool) (crtc plane flush : Option ℕ) (last : Option Step) → FoundOf r k claim crtc plane flush last
-    → cond claim (Some (step.Claim k)) (or_else (option_map (step.Write k Crtc) crtc) (or_else (option_map (step.Write k Plane) plane) (or_else (option_map (step.Flush k Crtc) flush) last))) ≡ first_of r k
+pub first_told : (r : Run) (k : ℕ) (claim : Bool) (crtc plane flush : Option ℕ) (last : Option Step)
+    → FoundOf r k claim crtc plane flush last
+    → cond claim (Some (step.Claim k)) (or_else (option_map (step.Write k Crtc) crtc)
+    (or_else (option_map (step.Write k Plane) plane) (or_else (option_map (step.Flush k Crtc) flush) last))) ≡ first_of r k
 first_told r k claim crtc plane flush last found =
     (λ i.
     cond (found.claim i) (Some (step.Claim k))
-    (or_else (option_map (step.Write k Crtc) (found.crtc i)) (or_else (option_map (step.Write k Plane) (found.plane i)) (or_else (option_map (step.Flush k Crtc) (found.flush i)) (found.last i)))))
+    (or_else (option_map (step.Write k Crtc) (found.crtc i))
+    (or_else (option_map (step.Write k Plane) (found.plane i))
+    (or_else (option_map (step.Flush k Crtc) (found.flush i)) (found.last i)))))
     ∙ sym (found_by_kinds (able r) r.script.topology k)
 
 -- CRTCs that go
@@ -93,33 +104,42 @@ abbrev pub has_go : Run → ℕ → Bool
 has_go r index = is_some (go_at (machine r).device (object_id Crtc index))
 
 module _ (r : Run) where
-  pub no_blanking : ((index : ℕ) → index < count_of r.script.topology Crtc → has_go r index ≡ false) → None ≡ find (able r) (steps_with_go r.script.topology (machine r))
+  pub no_blanking : ((index : ℕ) → index < count_of r.script.topology Crtc → has_go r index ≡ false) → None
+      ≡ find (able r) (steps_with_go r.script.topology (machine r))
   no_blanking rests = sym (none_of 0 (count_of r.script.topology Crtc) (λ j low high. rests j (omega (arith, high)))) where
-    none_of : (a n : ℕ) → ((j : ℕ) → a ≤ j → j < a + n → has_go r j ≡ false) → find (able r) (map (step.Vblank Crtc) (filter (has_go r) (range_with_len a n))) ≡ None
+    none_of : (a n : ℕ) → ((j : ℕ) → a ≤ j → j < a + n → has_go r j ≡ false)
+        → find (able r) (map (step.Vblank Crtc) (filter (has_go r) (range_with_len a n))) ≡ None
     none_of a zero rests = refl
-    none_of a (suc n) rests = rw (rests a (omega arith) (omega arith)) (none_of (a + 1) n (λ j low high. rests j (omega (arith, low)) (omega (arith, high))))
+    none_of a (suc n) rests = rw (rests a (omega arith) (omega arith))
+        (none_of (a + 1) n (λ j low high. rests j (omega (arith, low)) (omega (arith, high))))
 
-  pub one_blanking : (index : ℕ) → index < count_of r.script.topology Crtc → has_go r index ≡ true → ((j : ℕ) → j < index → has_go r j ≡ false) → Some (step.Vblank Crtc index) ≡ find (able r) (steps_with_go r.script.topology (machine r))
+  pub one_blanking : (index : ℕ) → index < count_of r.script.topology Crtc → has_go r index ≡ true
+      → ((j : ℕ) → j < index → has_go r j ≡ false) → Some (step.Vblank Crtc index)
+      ≡ find (able r) (steps_with_go r.script.topology (machine r))
   one_blanking index within goes rests =
       sym (one_of 0 (count_of r.script.topology Crtc) (omega arith) (omega (arith, within)) (λ j low before. rests j before)) where
-        one_of : (a n : ℕ) → a ≤ index → index < a + n → ((j : ℕ) → a ≤ j → j < index → has_go r j ≡ false) → find (able r) (map (step.Vblank Crtc) (filter (has_go r) (range_with_len a n))) ≡ Some (step.Vblank Crtc index)
+        one_of : (a n : ℕ) → a ≤ index → index < a + n → ((j : ℕ) → a ≤ j → j < index → has_go r j ≡ false)
+            → find (able r) (map (step.Vblank Crtc) (filter (has_go r) (range_with_len a n))) ≡ Some (step.Vblank Crtc index)
         one_of a zero low high rests = absurd (omega (arith, low, high))
         one_of a (suc n) low high rests =
             elim (cases_lt a index) [
-              | inl before ↦ rw (rests a (omega arith) before) (one_of (a + 1) n (omega (arith, before)) (omega (arith, high)) (λ j above below. rests j (omega (arith, above)) below))
+              | inl before ↦ rw (rests a (omega arith) before)
+                  (one_of (a + 1) n (omega (arith, before)) (omega (arith, high)) (λ j above below. rests j (omega (arith, above)) below))
               | inr behind ↦ (let e : a ≡ index = omega (arith, low, behind) in rw (e, goes, goes_able r index within goes) refl)
             ]
 
 -- All together
 
-legal_steps : (v : Run) → (machine v).stalled ≡ false → (k : ℕ) → first_of v k ≡ find (legal v.script (machine v)) (steps_of_commit v.script.topology k)
+legal_steps : (v : Run) → (machine v).stalled ≡ false → (k : ℕ) → first_of v k
+    ≡ find (legal v.script (machine v)) (steps_of_commit v.script.topology k)
 unfolding legal
 legal_steps v going k =
     found_by_kinds (able v) v.script.topology k
     ∙ ap (λ (z : Bool). by_kinds (λ x. not z && able v x) v.script.topology k) (sym going)
     ∙ sym (found_by_kinds (legal v.script (machine v)) v.script.topology k)
 
-legal_blankings : (v : Run) → (machine v).stalled ≡ false → find (able v) (steps_with_go v.script.topology (machine v)) ≡ find (legal v.script (machine v)) (steps_with_go v.script.topology (machine v))
+legal_blankings : (v : Run) → (machine v).stalled ≡ false → find (able v) (steps_with_go v.script.topology (machine v))
+    ≡ find (legal v.script (machine v)) (steps_with_go v.script.topology (machine v))
 unfolding legal
 legal_blankings v going =
     let goes = filter (has_go v) (range_with_len 0 (count_of v.script.topology Crtc)) in
@@ -127,9 +147,11 @@ legal_blankings v going =
     ∙ ap (λ (z : Bool). option_map (step.Vblank Crtc) (find (λ i. not z && able v (step.Vblank Crtc i)) goes)) (sym going)
     ∙ sym (found_mapped (legal v.script (machine v)) (step.Vblank Crtc) goes)
 
-pub settle_told : (r v : Run) (st : Stores) (tail blanking : Option Step) → Stands r st → r ≡ v → st.stalled ≡ false → tail ≡ first_some (first_of v) (commit_numbers (machine v))
+pub settle_told : (r v : Run) (st : Stores) (tail blanking : Option Step) → Stands r st → r ≡ v → st.stalled ≡ false → tail
+    ≡ first_some (first_of v) (commit_numbers (machine v))
     → blanking ≡ find (able v) (steps_with_go v.script.topology (machine v)) → or_else tail blanking ≡ tail_step v.script (machine v)
 unfolding tail_step
 settle_told r v st tail blanking stands same going tail_is blanking_is =
     let rests : (machine v).stalled ≡ false = ap (λ (w : Run). (machine w).stalled) (sym same) ∙ stands.stores.ended ∙ going in
-    (λ i. or_else (tail_is i) (blanking_is i)) ∙ (λ i. or_else (first_some (λ k. legal_steps v rests k i) (commit_numbers (machine v))) (legal_blankings v rests i))
+    (λ i. or_else (tail_is i) (blanking_is i)) ∙ (λ i. or_else (first_some (λ k. legal_steps v rests k i) (commit_numbers (machine v)))
+    (legal_blankings v rests i))

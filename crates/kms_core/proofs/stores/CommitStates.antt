@@ -45,16 +45,33 @@ pub record IsSoundCommit (t : Topology) (clients : ℕ) (c : Commit) (words : �
 abbrev pub AreSoundCommits : Topology → ℕ → List Commit → Type 0
 AreSoundCommits t clients cs = (k : ℕ) → k < length cs → IsSoundCommit t clients (commit_at t cs k) (crtc_after t cs k)
 
-one_more : (t : Topology) (clients : ℕ) (x : Commit) (cs : List Commit) → AreSoundCommits t clients cs → IsSoundCommit t clients x (crtc_after t cs (length cs)) → AreSoundCommits t clients (x ∷ cs)
+one_more : (t : Topology) (clients : ℕ) (x : Commit) (cs : List Commit) → AreSoundCommits t clients cs
+    → IsSoundCommit t clients x (crtc_after t cs (length cs)) → AreSoundCommits t clients (x ∷ cs)
 one_more t clients x cs all one k low =
     ⊎_elim
     (λ (old : k < length cs). (
     let was = all k old in
-    let now : IsSoundCommit t clients (commit_at t (x ∷ cs) k) (crtc_after t cs k) = subst (λ (c : Commit). IsSoundCommit t clients c (crtc_after t cs k)) (sym (commit_old t x cs k old)) was in
-    record { low = now.low; high = now.high; lawful = now.lawful; lawful_after = now.lawful_after; old_words = λ crtc is. now.old_words crtc is ∙ sym (crtc_old t x cs k crtc (omega (arith, old))) }))
+    let now : IsSoundCommit t clients (commit_at t (x ∷ cs) k) (crtc_after t cs k) = subst
+    (λ (c : Commit). IsSoundCommit t clients c (crtc_after t cs k)) (sym (commit_old t x cs k old)) was in
+    record {
+      low = now.low;
+      high = now.high;
+      lawful = now.lawful;
+      lawful_after = now.lawful_after;
+      old_words = λ crtc is. now.old_words crtc
+          is ∙ sym (crtc_old t x cs k crtc (omega (arith, old)));
+    }))
     (λ (same : length cs ≡ k). subst (λ n. IsSoundCommit t clients (commit_at t (x ∷ cs) n) (crtc_after t (x ∷ cs) n)) same (
-    let now : IsSoundCommit t clients (commit_at t (x ∷ cs) (length cs)) (crtc_after t cs (length cs)) = subst (λ (c : Commit). IsSoundCommit t clients c (crtc_after t cs (length cs))) (sym (commit_new t x cs)) one in
-    record { low = now.low; high = now.high; lawful = now.lawful; lawful_after = now.lawful_after; old_words = λ crtc is. now.old_words crtc is ∙ sym (crtc_old t x cs (length cs) crtc (omega arith)) }))
+    let now : IsSoundCommit t clients (commit_at t (x ∷ cs) (length cs)) (crtc_after t cs (length cs)) = subst
+    (λ (c : Commit). IsSoundCommit t clients c (crtc_after t cs (length cs))) (sym (commit_new t x cs)) one in
+    record {
+      low = now.low;
+      high = now.high;
+      lawful = now.lawful;
+      lawful_after = now.lawful_after;
+      old_words = λ crtc is. now.old_words crtc
+          is ∙ sym (crtc_old t x cs (length cs) crtc (omega arith));
+    }))
     (is_old k (length cs) low)
 
 abbrev Sound : Script → DeviceState → List Latch → Type 0
@@ -64,16 +81,28 @@ sound_kept : (s : Script) → IsKept s (Sound s)
 sound_kept s =
     few_kept s (λ w cs ls. AreSoundCommits s.topology (length s.clients) cs) (λ m client c is other all. all)
     (λ m client r H is none all. one_more s.topology (length s.clients) (commit_of m client r) m.device.commits all
-    (record { low = (client_there s m client (command.Atomic r) is).0; high = (client_there s m client (command.Atomic r) is).1; lawful = H.present.lawful; lawful_after = sound-apply s.topology m.device.world r (m.device.world.commits + 1) H.present.lawful none; old_words = H.present.states.crtc }))
+    (record {
+      low = (client_there s m client (command.Atomic r) is).0;
+      high = (client_there s m client (command.Atomic r) is).1;
+      lawful =
+          H.present.lawful;
+      lawful_after = sound-apply s.topology m.device.world r (m.device.world.commits + 1) H.present.lawful none;
+      old_words = H.present.states.crtc;
+    }))
     (λ d ls k c count T found all. all)
 
 record AlsoSound (s : Script) (m : Machine) : Type 0 where
   holds : Holds s m
   sound : AreSoundCommits s.topology (length s.clients) m.device.commits
 
-pub commits_sound : (s : Script) (h : List Step) → IsPlainScript s → is_history s h ≡ true → AreSoundCommits s.topology (length s.clients) (at s h).device.commits
+pub commits_sound : (s : Script) (h : List Step) → IsPlainScript s → is_history s h ≡ true
+    → AreSoundCommits s.topology (length s.clients) (at s h).device.commits
 commits_sound s h plain is =
-    (along s (AlsoSound s) (λ m step both legal. record { holds = step_kept s m step plain both.holds legal; sound = step_keeps s (Sound s) (sound_kept s) m both.holds both.sound step legal }) h (first_machine s.topology)
+    (along s (AlsoSound s) (λ m step both legal. record {
+      holds = step_kept s m step plain both.holds legal;
+      sound = step_keeps s (Sound s)
+          (sound_kept s) m both.holds both.sound step legal;
+    }) h (first_machine s.topology)
     (record { holds = first_kept s plain; sound = λ k low. absurd (omega (arith, low)) }) is).sound
 
 -- What is known of the machine of a core
@@ -83,7 +112,8 @@ facts r st stands = history_facts r.script r.steps (plain-from r.script stands.f
 
 -- Before a commit writes a CRTC, the shadow words are those that it starts from
 
-module _ {t : Topology} {d : DeviceState} {ls : List Latch} (T : Tail t d.commits d.marks d.shadow d.go ls) (k c : ℕ) (is_crtc : IsIn c (ids_of t Crtc)) (W : IsWrite t d k c) where
+module _ {t : Topology} {d : DeviceState} {ls : List Latch} (T : Tail t d.commits d.marks d.shadow d.go ls) (k c : ℕ)
+    (is_crtc : IsIn c (ids_of t Crtc)) (W : IsWrite t d k c) where
   c_lockable : IsIn c (lockable t)
   c_lockable = crtc_lockable t c is_crtc
 
@@ -93,8 +123,10 @@ module _ {t : Topology} {d : DeviceState} {ls : List Latch} (T : Tail t d.commit
       ⊎_elim (λ (lt : j < k). lt)
       (λ (ge : k ≤ j).
       ⊎_elim
-      (λ (behind : k < j). absurd (both_bools _ ((T.marks.done k (T.order.settled j k c q.0 behind c_lockable q.1 W.touches).done).1 c W.is_registered W.touches) W.fresh))
-      (λ (le : j ≤ k). (let e : k ≡ j = omega (arith, ge, le) in absurd (both_bools _ (ap (λ z. has_pair d.marks.written z c) e ∙ w) W.fresh)))
+      (λ (behind : k < j). absurd (both_bools _ ((T.marks.done k (T.order.settled j k c q.0 behind c_lockable q.1 W.touches).done).1 c
+      W.is_registered W.touches) W.fresh))
+      (λ (le : j ≤ k). (let e : k ≡ j = omega (arith, ge, le)
+      in absurd (both_bools _ (ap (λ z. has_pair d.marks.written z c) e ∙ w) W.fresh)))
       (cases_lt k j))
       (cases_lt j k)
 

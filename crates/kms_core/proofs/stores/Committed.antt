@@ -42,9 +42,11 @@ use Rattle.kms_core.specs.SwappedIn.{IsSwappedIn}
 use Rattle.kms_core.proofs.stores.AfterCommit.{swapped_agree, swapped_whole}
 
 -- what is there in a list is there by its place
-pub there_at : {S : Type 0} (states : List (Option (Both S))) (i : ℕ) → is_some (state_at states i) ≡ true → is_some (slice_index_or states i None) ≡ true
+pub there_at : {S : Type 0} (states : List (Option (Both S))) (i : ℕ) → is_some (state_at states i) ≡ true
+    → is_some (slice_index_or states i None) ≡ true
 there_at {S} states i some = of_slot (slice_get states i) refl some where
-  of_slot : (o : Option (Option (Both S))) → slice_get states i ≡ o → is_some (option_flatten o) ≡ true → is_some (slice_index_or states i None) ≡ true
+  of_slot : (o : Option (Option (Both S))) → slice_get states i ≡ o → is_some (option_flatten o) ≡ true
+      → is_some (slice_index_or states i None) ≡ true
   of_slot None is some = absurd cc
   of_slot (Some None) is some = absurd cc
   of_slot (Some (Some both)) is some = ap is_some (get_or_from_slice_get states i (Some both) None is)
@@ -60,50 +62,65 @@ module _ (t : Topology) (w : World) (r : Request) (at : IsRequestAt t w r) (chec
   unfolding touches
   touched_as kind i low = ap (λ k. touches_of_kind k t w r (object_id kind i)) (kind_of-object kind i low)
 
-  same_where : (kind : Kind) (i : ℕ) → IsIn (object_id kind i) (lockable t) → (touches t w r (object_id kind i) ≡ true → ⊥) → HasSameState t w (record w { values = after w r; commits = w.commits + 1 }) (object_id kind i)
+  same_where : (kind : Kind) (i : ℕ) → IsIn (object_id kind i) (lockable t) → (touches t w r (object_id kind i) ≡ true → ⊥)
+      → HasSameState t w (record w { values = after w r; commits = w.commits + 1 }) (object_id kind i)
   same_where kind i there free = by_touch (touches t w r (object_id kind i)) refl where
-    by_touch : (b : Bool) → touches t w r (object_id kind i) ≡ b → HasSameState t w (record w { values = after w r; commits = w.commits + 1 }) (object_id kind i)
+    by_touch : (b : Bool) → touches t w r (object_id kind i) ≡ b
+        → HasSameState t w (record w { values = after w r; commits = w.commits + 1 }) (object_id kind i)
     by_touch true touched = absurd (free touched)
     by_touch false untouched = untouched_same t w r at (object_id kind i) there untouched (w.commits + 1)
 
   none_there : {A : Type 0} (o : Option A) → o ≡ None → is_some o ≡ true → ⊥
   none_there o none some = false≢true (sym (ap is_some none) ∙ some)
 
-  crtc_same : (i : ℕ) → i < t.crtcs → slice_index_or checked.states.crtcs i None ≡ None → crtc_state_at t w.things (after w r) (object_id Crtc i) ≡ crtc_state_at t w.things w.values (object_id Crtc i)
+  crtc_same : (i : ℕ) → i < t.crtcs → slice_index_or checked.states.crtcs i None ≡ None
+      → crtc_state_at t w.things (after w r) (object_id Crtc i) ≡ crtc_state_at t w.things w.values (object_id Crtc i)
   crtc_same i low none =
       (same_where Crtc i (in_left (ids_of t Crtc) _ (object_id Crtc i) (ids-has t Crtc i low))
       (λ touched. none_there (slice_index_or checked.states.crtcs i None) none
       (has.crtcs i (omega (arith, low, few.crtcs))
-      (ap (λ (mask : Mask). has_bit mask.crtcs i) is.touched ∙ has_bit-mask_below (λ index. touches_of_kind Crtc t w r (object_id Crtc index)) (count_of t Crtc) i
+      (ap (λ (mask : Mask). has_bit mask.crtcs i) is.touched ∙ has_bit-mask_below
+      (λ index. touches_of_kind Crtc t w r (object_id Crtc index)) (count_of t Crtc) i
       ∙ and_from _ _ (lt-ltb i (count_of t Crtc) low) (sym (touched_as Crtc i (omega (arith, low, few.crtcs))) ∙ touched))))).crtc
       (kind_of-object Crtc i (omega (arith, low, few.crtcs)))
 
-  plane_same : (i : ℕ) → i < count_of t Plane → slice_index_or checked.states.planes i None ≡ None → plane_at w.things (after w r) (object_id Plane i) ≡ plane_at w.things w.values (object_id Plane i)
+  plane_same : (i : ℕ) → i < count_of t Plane → slice_index_or checked.states.planes i None ≡ None
+      → plane_at w.things (after w r) (object_id Plane i) ≡ plane_at w.things w.values (object_id Plane i)
   plane_same i low none =
-      (same_where Plane i (in_right (ids_of t Crtc) _ (object_id Plane i) (in_left (ids_of t Plane) _ (object_id Plane i) (ids-has t Plane i low)))
+      (same_where Plane i (in_right (ids_of t Crtc) _ (object_id Plane i)
+      (in_left (ids_of t Plane) _ (object_id Plane i) (ids-has t Plane i low)))
       (λ touched. none_there (slice_index_or checked.states.planes i None) none
       (has.planes i (omega (arith, low, few.planes))
-      (ap (λ (mask : Mask). has_bit mask.planes i) is.touched ∙ has_bit-mask_below (λ index. touches_of_kind Plane t w r (object_id Plane index)) (count_of t Plane) i
+      (ap (λ (mask : Mask). has_bit mask.planes i) is.touched ∙ has_bit-mask_below
+      (λ index. touches_of_kind Plane t w r (object_id Plane index)) (count_of t Plane) i
       ∙ and_from _ _ (lt-ltb i (count_of t Plane) low) (sym (touched_as Plane i (omega (arith, low, few.planes))) ∙ touched))))).plane
       (kind_of-object Plane i (omega (arith, low, few.planes)))
 
-  conn_same : (i : ℕ) → i < count_of t Conn → slice_index_or checked.states.conns i None ≡ None → conn_state_at (after w r) (object_id Conn i) ≡ conn_state_at w.values (object_id Conn i)
+  conn_same : (i : ℕ) → i < count_of t Conn → slice_index_or checked.states.conns i None ≡ None
+      → conn_state_at (after w r) (object_id Conn i) ≡ conn_state_at w.values (object_id Conn i)
   conn_same i low none =
       ap (λ n. record { crtc = n })
-      ((same_where Conn i (in_right (ids_of t Crtc) _ (object_id Conn i) (in_right (ids_of t Plane) _ (object_id Conn i) (ids-has t Conn i low)))
+      ((same_where Conn i (in_right (ids_of t Crtc) _ (object_id Conn i)
+      (in_right (ids_of t Plane) _ (object_id Conn i) (ids-has t Conn i low)))
       (λ touched. none_there (slice_index_or checked.states.conns i None) none
       (has.conns i (omega (arith, low, few.conns))
-      (ap (λ (mask : Mask). has_bit mask.conns i) is.touched ∙ has_bit-mask_below (λ index. touches_of_kind Conn t w r (object_id Conn index)) (count_of t Conn) i
+      (ap (λ (mask : Mask). has_bit mask.conns i) is.touched ∙ has_bit-mask_below
+      (λ index. touches_of_kind Conn t w r (object_id Conn index)) (count_of t Conn) i
       ∙ and_from _ _ (lt-ltb i (count_of t Conn) low) (sym (touched_as Conn i (omega (arith, low, few.conns))) ∙ touched))))).connector
       (kind_of-object Conn i (omega (arith, low, few.conns))))
 
-  values_present : (present news : Duplicates) → IsPresent t w present → IsSwappedIn present checked.states news → IsPresent t (record w { values = after w r; commits = w.commits + 1 }) news
+  values_present : (present news : Duplicates) → IsPresent t w present → IsSwappedIn present checked.states news
+      → IsPresent t (record w { values = after w r; commits = w.commits + 1 }) news
   values_present present news was swaps =
-      let crtcs = swapped_agree (λ index. crtc_state_at t w.things w.values (object_id Crtc index)) (λ index. crtc_state_at t w.things (after w r) (object_id Crtc index)) present.crtcs checked.states.crtcs news.crtcs t.crtcs
+      let crtcs = swapped_agree (λ index. crtc_state_at t w.things w.values (object_id Crtc index))
+      (λ index. crtc_state_at t w.things (after w r) (object_id Crtc index)) present.crtcs checked.states.crtcs news.crtcs t.crtcs
       swaps.crtcs was.whole.crtcs was.old.crtcs was.new.crtcs is.new.crtcs crtc_same in
-      let planes = swapped_agree (λ index. plane_at w.things w.values (object_id Plane index)) (λ index. plane_at w.things (after w r) (object_id Plane index)) present.planes checked.states.planes news.planes (count_of t Plane)
+      let planes = swapped_agree (λ index. plane_at w.things w.values (object_id Plane index))
+      (λ index. plane_at w.things (after w r) (object_id Plane index)) present.planes checked.states.planes news.planes
+      (count_of t Plane)
       swaps.planes was.whole.planes was.old.planes was.new.planes is.new.planes plane_same in
-      let conns = swapped_agree (λ index. conn_state_at w.values (object_id Conn index)) (λ index. conn_state_at (after w r) (object_id Conn index)) present.conns checked.states.conns news.conns (count_of t Conn)
+      let conns = swapped_agree (λ index. conn_state_at w.values (object_id Conn index))
+      (λ index. conn_state_at (after w r) (object_id Conn index)) present.conns checked.states.conns news.conns (count_of t Conn)
       swaps.conns was.whole.conns was.old.conns was.new.conns is.new.conns conn_same in
       record {
         whole = record {

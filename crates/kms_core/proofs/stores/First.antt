@@ -10,8 +10,8 @@ use Rattle.kms_model.specs.Machine.Histories.{run_steps, are_legal}
 use Rattle.kms_model.specs.Machine.Registers.{read}
 use Rattle.kms_model.specs.Machine.State.{first_machine}
 use Rattle.kms_model.specs.Script.WellFormed.{IsWellFormed}
-use Rattle.kms_clients.specs.InStep.{AreClientsOf}
-use Rattle.kms_clients.specs.Standing.{Standing}
+use Rattle.kms_wwlock.specs.InStep.{AreClientsOf}
+use Rattle.kms_wwlock.specs.Standing.{Standing}
 use Rattle.kms_regs.specs.File.{RegisterFile, StandsForDevice}
 use Rattle.kms_signal.proofs.InStepLemmas.{no_fences, no_events}
 use Rattle.kms_signal.specs.Queues.{Queue, empty_queue}
@@ -38,8 +38,10 @@ first_stores clients present queues registers = record {
   freed = record { items = []; places = 0; room = 0 };
 }
 
-pub stands_first : (s : Script) (clients : Standing) (present : Duplicates) (queues : List Queue) (registers : RegisterFile) → IsWellFormed s
-    → AreClientsOf (first_machine s.topology).contexts clients → IsPresent s.topology (start s.topology) present → queues ≡ replicate (length s.clients) empty_queue → StandsForDevice s.topology (first_machine s.topology).device registers
+pub stands_first : (s : Script) (clients : Standing) (present : Duplicates) (queues : List Queue) (registers : RegisterFile)
+    → IsWellFormed s
+    → AreClientsOf (first_machine s.topology).contexts clients → IsPresent s.topology (start s.topology) present → queues
+    ≡ replicate (length s.clients) empty_queue → StandsForDevice s.topology (first_machine s.topology).device registers
     → Stands (record { script = s; steps = [] }) (first_stores clients present queues registers)
 unfolding read run_steps are_legal freed_from
 stands_first s clients present queues registers formed clients_stand present_stand queues_are registers_stand = record {
@@ -54,7 +56,8 @@ stands_first s clients present queues registers formed clients_stand present_sta
     out_fenced = λ k index id low few is. absurd (omega (arith, low));
     queues = record {
       size = ap length queues_are ∙ length-replicate (length s.clients) empty_queue;
-      queue = λ client low high. rw (queues_are, get_or-replicate (length s.clients) (client - 1) empty_queue empty_queue (omega arith)) (no_events client);
+      queue = λ client low high. rw (queues_are, get_or-replicate (length s.clients) (client - 1) empty_queue empty_queue (omega arith))
+          (no_events client);
     };
     tracker = first_stands s.topology;
     registers = registers_stand;

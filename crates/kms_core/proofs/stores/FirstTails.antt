@@ -49,7 +49,8 @@ tail_within r v st stands same from k first =
     let size = ap (λ (w : Run). length (machine w).device.commits) same in
     omega (arith, within, size)
 
-module _ (A : Type 0) (r v : Run) (st : Stores) (stands : Stands r st) (same : r ≡ v) (f : ℕ → Option A) (over : (k : ℕ) → has_number (machine r).device.marks.cleaned k ≡ true → f k ≡ None) where
+module _ (A : Type 0) (r v : Run) (st : Stores) (stands : Stands r st) (same : r ≡ v) (f : ℕ → Option A)
+    (over : (k : ℕ) → has_number (machine r).device.marks.cleaned k ≡ true → f k ≡ None) where
   pub nothing_further : (from k : ℕ) → FindsFirst st.tracker from (Some k) → None ≡ f k → ((j : ℕ) → j < from → f j ≡ None)
       → (j : ℕ) → j < k + 1 → f j ≡ None
   nothing_further from k first none before =

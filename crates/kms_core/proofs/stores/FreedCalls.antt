@@ -1,5 +1,6 @@
 -- Calls that may free framebuffers.
-use Rattle.std.proofs.Common.{◌≡◌, ℕ, ◌+◌, ◌<◌, ◌≤◌, List, [], ◌∷◌, ◌++◌, length, true, false, Option, Some, None, refl, sym, ap, ◌∙◌, subst, arith, inl, inr, ◌⊎◌}
+use Rattle.std.proofs.Common.{◌≡◌, ℕ, ◌+◌, ◌<◌, ◌≤◌, List, [], ◌∷◌, ◌++◌, length, true, false, Option, Some, None, refl, sym, ap, ◌∙◌}
+use Rattle.std.proofs.Common.{subst, arith, inl, inr, ◌⊎◌}
 use Rattle.std.specs.Prelude.{filter}
 use Rattle.kms_model.specs.declared.objects.Kind.TheVariants.{Crtc}
 use Rattle.kms_model.specs.declared.objects.Topology.{Topology}
@@ -40,7 +41,8 @@ use Rattle.kms_core.specs.Logs.{Reserved}
 use Rattle.kms_core.specs.Needs.{Accounts, Frees, HasPlaceFor, MayAccount, TellNeeds}
 use Rattle.kms_core.specs.Run.{Run, machine}
 use Rattle.kms_core.specs.Stands.{Stores, Stands, StandsAt}
-use Rattle.kms_core.proofs.freeing.FreedHistories.{Executes, Latches, added_freed, changes, latch_frees, make_frees, quiet_freed, told_freed}
+use Rattle.kms_core.proofs.freeing.FreedHistories.{Executes, Latches, added_freed, changes, latch_frees, make_frees, quiet_freed}
+use Rattle.kms_core.proofs.freeing.FreedHistories.{told_freed}
 use Rattle.kms_regs.specs.Layers.{picture_layers}
 use Rattle.kms_regs.proofs.FewLayers.{shown_few}
 use Rattle.kms_core.proofs.freeing.FreedLatches.{live_by}
@@ -61,15 +63,19 @@ tell_needs s m st device stands =
 
 -- There are places for candidates that are needed.
 
-pub needed_places : (t : Topology) (m : Machine) (things : List Thing) (ids : List ℕ) → m.device.world.things ≡ things → AreNumbered 1000 m.device.world.things → AreRising 0 ids
-    → ((id : ℕ) → IsIn id ids → (x : Thing) → x.id ≡ id → is_framebuffer x.content ≡ true → is_needed t m x ≡ true) → framebuffers_in things ids ≤ length (filter (is_needed t m) m.device.world.things)
+pub needed_places : (t : Topology) (m : Machine) (things : List Thing) (ids : List ℕ) → m.device.world.things ≡ things
+    → AreNumbered 1000 m.device.world.things → AreRising 0 ids
+    → ((id : ℕ) → IsIn id ids → (x : Thing) → x.id ≡ id → is_framebuffer x.content ≡ true → is_needed t m x ≡ true)
+    → framebuffers_in things ids ≤ length (filter (is_needed t m) m.device.world.things)
 needed_places t m things ids same numbered rising needed =
     subst (λ all. framebuffers_in all ids ≤ length (filter (is_needed t m) m.device.world.things)) same
-    (as_many 1000 (is_needed t m) m.device.world.things 0 (filter (λ id. is_framebuffer_in (thing_with_id m.device.world.things id)) ids) numbered (rising_filter 0 _ ids rising) (λ id is.
+    (as_many 1000 (is_needed t m) m.device.world.things 0 (filter (λ id. is_framebuffer_in (thing_with_id m.device.world.things id)) ids)
+    numbered (rising_filter 0 _ ids rising) (λ id is.
     let found = filter-in (λ id. is_framebuffer_in (thing_with_id m.device.world.things id)) ids id is in
     at id (thing_with_id m.device.world.things id) refl found.1 (λ x own framebuffer. needed id found.0 x own framebuffer)))
   where
-    at : (id : ℕ) (o : Option Thing) → thing_with_id m.device.world.things id ≡ o → is_framebuffer_in o ≡ true → ((x : Thing) → x.id ≡ id → is_framebuffer x.content ≡ true → is_needed t m x ≡ true) → passes (is_needed t m) o ≡ true
+    at : (id : ℕ) (o : Option Thing) → thing_with_id m.device.world.things id ≡ o → is_framebuffer_in o ≡ true
+        → ((x : Thing) → x.id ≡ id → is_framebuffer x.content ≡ true → is_needed t m x ≡ true) → passes (is_needed t m) o ≡ true
     at id None found e needed = absurd cc
     at id (Some x) found e needed = needed x (find-same m.device.world.things id x found) e
 
@@ -77,13 +83,21 @@ numbered_of : (r : Run) (st : Stores) → Stands r st → AreNumbered 1000 (mach
 numbered_of r st stands = (history_kept r.script r.steps (plain-from r.script stands.formed) stands.history).present.lawful.numbered.things
 
 -- those of the picture that a CRTC shows
-pub live_places : (r : Run) (st : Stores) (c : ℕ) (ids : List ℕ) → Stands r st → IsIn c (ids_of r.script.topology Crtc) → AreAllOf ids (λ id. picture_names id (decoded_picture r.script.topology (machine r).device.live c)) → framebuffers_in st.made.things ids ≤ st.freed.places
+pub live_places : (r : Run) (st : Stores) (c : ℕ) (ids : List ℕ) → Stands r st → IsIn c (ids_of r.script.topology Crtc)
+    → AreAllOf ids (λ id. picture_names id (decoded_picture r.script.topology (machine r).device.live c))
+    → framebuffers_in st.made.things ids ≤ st.freed.places
 live_places r st c ids stands is_crtc A =
     let t = r.script.topology in
     let m = machine r in
     let few = stands.freed.places in
-    let most = needed_places t m st.made.things ids stands.stores.world.things (numbered_of r st stands) A.rising (λ id is x own framebuffer.
-    needed_by t m x (record { framebuffer = framebuffer; why = inr (inr (inl (live_by t m.device x.id c is_crtc (subst (λ z. picture_names z (decoded_picture t m.device.live c) ≡ true) (sym own) (each_of ids _ A id is))))) })) in
+    let most = needed_places t m st.made.things ids stands.stores.world.things (numbered_of r st stands) A.rising
+    (λ id is x own framebuffer.
+    needed_by t m x (record {
+      framebuffer = framebuffer;
+      why = inr
+          (inr (inl (live_by t m.device x.id c is_crtc
+          (subst (λ z. picture_names z (decoded_picture t m.device.live c) ≡ true) (sym own) (each_of ids _ A id is)))));
+    })) in
     omega (arith, few, most)
 
 -- a picture names what its layers name
@@ -93,9 +107,11 @@ named_by id (On shown) = refl
 
 -- what a register file tells of a CRTC's layers is so
 abbrev TellsLayers : Stores → ℕ → List Layer → Type 0
-TellsLayers st c layers = (t : Topology) (d : DeviceState) → StandsForDevice t d st.registers → layers ≡ picture_layers (decoded_picture t d.live c)
+TellsLayers st c layers = (t : Topology) (d : DeviceState) → StandsForDevice t d st.registers → layers
+    ≡ picture_layers (decoded_picture t d.live c)
 
-pub live_all : (r : Run) (st : Stores) (c : ℕ) (layers : List Layer) (found ids : List ℕ) → Stands r st → AreAllOf found (λ id. layers_name id layers) → TellsLayers st c layers → ids ≡ found
+pub live_all : (r : Run) (st : Stores) (c : ℕ) (layers : List Layer) (found ids : List ℕ) → Stands r st
+    → AreAllOf found (λ id. layers_name id layers) → TellsLayers st c layers → ids ≡ found
     → AreAllOf ids (λ id. picture_names id (decoded_picture r.script.topology (machine r).device.live c))
 live_all r st c layers found ids stands all tells is =
     let t = r.script.topology in
@@ -108,17 +124,25 @@ live_all r st c layers found ids stands all tells is =
 
 pub live_few : (r : Run) (st : Stores) (c : ℕ) (layers : List Layer) → Stands r st → TellsLayers st c layers → length layers ≤ 16
 live_few r st c layers stands tells =
-    subst (λ ls. length ls ≤ 16) (sym (tells r.script.topology (machine r).device stands.stores.registers)) (shown_few r.script.topology (machine r).device.live c stands.formed.device)
+    subst (λ ls. length ls ≤ 16) (sym (tells r.script.topology (machine r).device stands.stores.registers))
+    (shown_few r.script.topology (machine r).device.live c stands.formed.device)
 
 -- and those of a commit that is not cleaned
-pub kept_places : (r : Run) (st : Stores) (k : ℕ) (ids : List ℕ) → Stands r st → k < length (machine r).device.commits → is_cleaned (machine r).device k ≡ false → AreAllOf ids (λ id. commit_keeps r.script.topology (machine r).device id k)
+pub kept_places : (r : Run) (st : Stores) (k : ℕ) (ids : List ℕ) → Stands r st → k < length (machine r).device.commits
+    → is_cleaned (machine r).device k ≡ false → AreAllOf ids (λ id. commit_keeps r.script.topology (machine r).device id k)
     → framebuffers_in st.made.things ids ≤ st.freed.places
 kept_places r st k ids stands within unclean A =
     let t = r.script.topology in
     let m = machine r in
     let few = stands.freed.places in
-    let most = needed_places t m st.made.things ids stands.stores.world.things (numbered_of r st stands) A.rising (λ id is x own framebuffer.
-    needed_by t m x (record { framebuffer = framebuffer; why = inr (inr (inr (keeps_by t m x.id k (range-in 0 (length m.device.commits) k (omega arith) (omega (arith, within))) unclean (subst (λ z. commit_keeps t m.device z k ≡ true) (sym own) (each_of ids _ A id is))))) })) in
+    let most = needed_places t m st.made.things ids stands.stores.world.things (numbered_of r st stands) A.rising
+    (λ id is x own framebuffer.
+    needed_by t m x (record {
+      framebuffer = framebuffer;
+      why = inr
+          (inr (inr (keeps_by t m x.id k (range-in 0 (length m.device.commits) k (omega arith) (omega (arith, within))) unclean
+          (subst (λ z. commit_keeps t m.device z k ≡ true) (sym own) (each_of ids _ A id is)))));
+    })) in
     omega (arith, few, most)
 
 -- Candidates that are needed are in the store.
@@ -174,8 +198,19 @@ goes_told r old new step ids freed made told were frees steps is stands is_legal
     (told_stored t (machine r) n ids new.made.fbs (numbered_of r old stands) told were))
 
 -- a latch
-pub latches_by : (s : Script) (m n : Machine) (c : ℕ) (l : Latch) → SameNeeds m n ⊎ Latches s m n c → l.crtc ≡ index_of c → IsIn c (ids_of s.topology Crtc) → n.records.latches ≡ l ∷ m.records.latches → Latches s m n c
-latches_by s m n c l (inl same) of_crtc is_crtc one = record { world = same.world; commits = same.commits; cleaned = same.cleaned; latch = l; of_crtc = of_crtc; is_crtc = is_crtc; recorded = one }
+pub latches_by : (s : Script) (m n : Machine) (c : ℕ) (l : Latch) → SameNeeds m n ⊎ Latches s m n c → l.crtc ≡ index_of c
+    → IsIn c (ids_of s.topology Crtc) → n.records.latches ≡ l ∷ m.records.latches → Latches s m n c
+latches_by s m n c l (inl same) of_crtc is_crtc one =
+    record {
+      world = same.world;
+      commits = same.commits;
+      cleaned = same.cleaned;
+      latch = l;
+      of_crtc = of_crtc;
+      is_crtc = is_crtc;
+      recorded =
+          one;
+    }
 latches_by s m n c l (inr latched) of_crtc is_crtc one = latched
 
 pub goes_latching : (r : Run) (old new : Stores) (step : Step) (c : ℕ) (ids : List ℕ) (freed : Reserved (ℕ × ℕ)) (made : Made)
@@ -210,7 +245,8 @@ goes_cleaning r old new k ids freed made within unclean A frees same_fbs steps i
 
 -- Commands that make and close things
 
-module _ (r : Run) (old : Stores) (client : ℕ) (c : Command) (told : Reply) (stands : Stands r old) (is_legal : legal r.script (machine r) (step.Make client) ≡ true) (at_place : command_at r.script (machine r) client ≡ Some c)
+module _ (r : Run) (old : Stores) (client : ℕ) (c : Command) (told : Reply) (stands : Stands r old)
+    (is_legal : legal r.script (machine r) (step.Make client) ≡ true) (at_place : command_at r.script (machine r) client ≡ Some c)
     (answered : (execute r.script.topology (machine r).device.world client c).reply ≡ told) where
   abbrev n : Machine
   n = next r.script (machine r) (step.Make client)
@@ -222,7 +258,8 @@ module _ (r : Run) (old : Stores) (client : ℕ) (c : Command) (told : Reply) (s
   unfolding X
   same_command = let one : Some X.command ≡ Some c = sym X.at_place ∙ at_place in cc
 
-  pub world_after : (next r.script (machine r) (step.Make client)).device.world ≡ (execute r.script.topology (machine r).device.world client c).world
+  pub world_after : (next r.script (machine r) (step.Make client)).device.world
+      ≡ (execute r.script.topology (machine r).device.world client c).world
   world_after = X.world ∙ ap (λ (x : Command). (execute r.script.topology (machine r).device.world client x).world) same_command
 
   frees_made : MadeFrees r.script.topology (machine r) (next r.script (machine r) (step.Make client)) client c told
@@ -233,7 +270,8 @@ module _ (r : Run) (old : Stores) (client : ℕ) (c : Command) (told : Reply) (s
       (make_frees r.script r.steps (step.Make client) (plain-from r.script stands.formed) stands.history is_legal client X))
 
   -- there is a place for a framebuffer that was closed
-  pub closed_place : (made : Made) → (next r.script (machine r) (step.Make client)).device.world.things ≡ made.things → HasPlaceFor made c told old.freed.places
+  pub closed_place : (made : Made) → (next r.script (machine r) (step.Make client)).device.world.things ≡ made.things
+      → HasPlaceFor made c told old.freed.places
   closed_place made same = at c told frees_made where
     at : (c : Command) (a : Reply) → MadeFrees r.script.topology (machine r) (next r.script (machine r) (step.Make client)) client c a
         → HasPlaceFor made c a old.freed.places
@@ -243,7 +281,9 @@ module _ (r : Run) (old : Stores) (client : ℕ) (c : Command) (told : Reply) (s
         let own : u.id ≡ frees.thing.id = ap (λ (x : Thing). x.id) is_now ∙ frees.same_id in
         let few = stands.freed.places in
         let room = frees.told.room in
-        let count : framebuffers_in made.things (u.id ∷ []) ≡ framebuffers_in (next r.script (machine r) (step.Make client)).device.world.things (frees.thing.id ∷ []) = (λ i. framebuffers_in (sym same i) (own i ∷ [])) in
+        let count : framebuffers_in made.things (u.id ∷ [])
+        ≡ framebuffers_in (next r.script (machine r) (step.Make client)).device.world.things (frees.thing.id ∷ []) =
+        (λ i. framebuffers_in (sym same i) (own i ∷ [])) in
         omega (arith, few, room, count)
     at _ _ frees = tt
 
@@ -266,10 +306,12 @@ module _ (r : Run) (old : Stores) (client : ℕ) (c : Command) (told : Reply) (s
     at (command.CloseFb label) reply.Done frees records =
         let tell = tell_needs r.script n new stands.formed.device after in
         let now = records frees.now (ap (λ things. thing_labelled things label) (sym after.world.things) ∙ frees.found) in
-        told_freed r.script r.steps (step.Make client) plain stands.history is_legal old.freed freed (frees.thing.id ∷ []) stands.freed frees.told
+        told_freed r.script r.steps (step.Make client) plain stands.history is_legal old.freed freed (frees.thing.id ∷ []) stands.freed
+        frees.told
         (now.items r.script.topology n tell ∙ ap (λ id. old.freed.items ++ freed_among r.script.topology n (id ∷ [])) frees.same_id)
         (now.places r.script.topology n tell ∙ ap (λ id. freed.places + length (freed_among r.script.topology n (id ∷ []))) frees.same_id)
-    at _ _ frees kept = quiet_freed r.script r.steps (step.Make client) plain stands.history is_legal old.freed freed stands.freed kept.items (let places = kept.places in omega (arith, places)) frees
+    at _ _ frees kept = quiet_freed r.script r.steps (step.Make client) plain stands.history is_legal old.freed freed stands.freed
+        kept.items (let places = kept.places in omega (arith, places)) frees
 
   -- What is stored
 

@@ -21,20 +21,25 @@ abbrev pub named_among : List Thing → ℕ → Look
 named_among things label = look_of (thing_labelled things label)
 
 -- the first that differs, answered
-pub answers_again : (r v : Run) (st : Stores) (used : List (ℕ × Look)) (stale : Stale) (decision given : Decided) → Stands r st → r ≡ v → IsFirstStale (named_among st.made.things) used (Some stale)
+pub answers_again : (r v : Run) (st : Stores) (used : List (ℕ × Look)) (stale : Stale) (decision given : Decided) → Stands r st → r ≡ v
+    → IsFirstStale (named_among st.made.things) used (Some stale)
     → given ≡ answer.Again stale.label stale.was stale.now → IsDecided (look_up (world v)) used decision given
 answers_again r v st used stale decision given stands same first is =
-    let now : IsFirstStale (look_up (world r)) used (Some stale) = subst (λ (things : List Thing). IsFirstStale (named_among things) used (Some stale)) (sym stands.stores.world.things) first in
+    let now : IsFirstStale (look_up (world r)) used (Some stale) = subst
+    (λ (things : List Thing). IsFirstStale (named_among things) used (Some stale)) (sym stands.stores.world.things) first in
     rw is (subst (λ (x : Run). IsFirstStale (look_up (world x)) used (Some stale)) same now)
 
 -- none differs
-pub fresh_now : (r v : Run) (st : Stores) (used : List (ℕ × Look)) → Stands r st → r ≡ v → IsFirstStale (named_among st.made.things) used None → IsFirstStale (look_up (world v)) used None
+pub fresh_now : (r v : Run) (st : Stores) (used : List (ℕ × Look)) → Stands r st → r ≡ v
+    → IsFirstStale (named_among st.made.things) used None → IsFirstStale (look_up (world v)) used None
 fresh_now r v st used stands same none =
-    let now : IsFirstStale (look_up (world r)) used None = subst (λ (things : List Thing). IsFirstStale (named_among things) used None) (sym stands.stores.world.things) none in
+    let now : IsFirstStale (look_up (world r)) used None = subst (λ (things : List Thing). IsFirstStale (named_among things) used None)
+    (sym stands.stores.world.things) none in
     subst (λ (x : Run). IsFirstStale (look_up (world x)) used None) same now
 
 -- then they are what the labels name
-are_looks : (f : ℕ → Look) (used : List (ℕ × Look)) → IsFirstStale f used None → used ≡ map (λ label. (label, f label)) (map (λ (l : ℕ × Look). l.0) used)
+are_looks : (f : ℕ → Look) (used : List (ℕ × Look)) → IsFirstStale f used None → used
+    ≡ map (λ label. (label, f label)) (map (λ (l : ℕ × Look). l.0) used)
 are_looks f [] none = refl
 are_looks f (l ∷ ls) (inl same) =
     let here : l ≡ (l.0, f l.0) = ap (λ (look : Look). (l.0, look)) same.0 in
@@ -42,7 +47,8 @@ are_looks f (l ∷ ls) (inl same) =
     ap (λ (x : ℕ × Look). x ∷ ls) here ∙ ap (λ (xs : List (ℕ × Look)). (l.0, f l.0) ∷ xs) rest
 are_looks f (l ∷ ls) (inr other) = absurd cc
 
-pub tells_now : (w : World) (r : Request) (used : List (ℕ × Look)) → IsFirstStale (look_up w) used None → map (λ (l : ℕ × Look). l.0) used ≡ labels_of r.assigns → TellsLabels (look_in used) (look_up w) r.assigns
+pub tells_now : (w : World) (r : Request) (used : List (ℕ × Look)) → IsFirstStale (look_up w) used None → map (λ (l : ℕ × Look). l.0) used
+    ≡ labels_of r.assigns → TellsLabels (look_in used) (look_up w) r.assigns
 tells_now w r used none labels =
     let is : used ≡ lookups w r = are_looks (look_up w) used none ∙ ap (map (λ label. (label, look_up w label))) labels in
     rw is (world_tells w r)

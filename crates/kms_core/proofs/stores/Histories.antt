@@ -11,8 +11,8 @@ use Rattle.kms_model.specs.Machine.Effects.{next}
 use Rattle.kms_model.specs.Machine.Histories.{are_legal, at, is_history, legal, run_steps}
 use Rattle.kms_model.specs.Machine.Registers.{Registers}
 use Rattle.kms_model.specs.Machine.State.{Contexts, Machine, Marks, first_machine}
-use Rattle.kms_clients.specs.InStep.{AreClientsOf}
-use Rattle.kms_clients.specs.Standing.{Standing}
+use Rattle.kms_wwlock.specs.InStep.{AreClientsOf}
+use Rattle.kms_wwlock.specs.Standing.{Standing}
 use Rattle.kms_laws.proofs.Modes.{plain-from}
 use Rattle.kms_laws.proofs.Turning.{run-more, legal-more}
 use Rattle.kms_core.specs.Freeing.{AreFreed, may_free}
@@ -28,7 +28,8 @@ use Rattle.kms_core.proofs.freeing.FreedSteps.{IsQuiet, SameNeeds}
 use Rattle.kms_core.proofs.freeing.StoredSteps.{quiet_stored}
 
 -- the stores stand where they stand for the machine after the step, for what is freed then, and for what is stored
-pub goes_freeing : (r : Run) (old new : Stores) (step : Step) (steps : List Step) → steps ≡ r.steps ++ step ∷ [] → Stands r old → legal r.script (machine r) step ≡ true → StandsAt r.script (next r.script (machine r) step) new
+pub goes_freeing : (r : Run) (old new : Stores) (step : Step) (steps : List Step) → steps ≡ r.steps ++ step ∷ [] → Stands r old
+    → legal r.script (machine r) step ≡ true → StandsAt r.script (next r.script (machine r) step) new
     → AreFreed r.script (r.steps ++ step ∷ []) new.freed → AreStored r.script.topology (next r.script (machine r) step) new.made.fbs
     → Stands (record { script = r.script; steps = steps }) new
 goes_freeing r old new step steps is stands is_legal after freed stored = record {
@@ -39,13 +40,15 @@ goes_freeing r old new step steps is stands is_legal after freed stored = record
   stored = rw (is, run-more r.script (first_machine r.script.topology) r.steps step) stored;
 }
 
-legal_then : (s : Script) (m : Machine) (h : List Step) (step : Step) → are_legal s m (h ++ step ∷ []) ≡ true → legal s (run_steps s m h) step ≡ true
+legal_then : (s : Script) (m : Machine) (h : List Step) (step : Step) → are_legal s m (h ++ step ∷ []) ≡ true
+    → legal s (run_steps s m h) step ≡ true
 unfolding run_steps are_legal
 legal_then s m [] step all = (and_parts (legal s m step) true all).0
 legal_then s m (first ∷ h) step all = legal_then s (next s m first) h step (and_parts (legal s m first) _ all).1
 
 -- the last step of a history was legal
-pub legal_last : (s : Script) (h steps : List Step) (step : Step) → steps ≡ h ++ step ∷ [] → is_history s steps ≡ true → legal s (at s h) step ≡ true
+pub legal_last : (s : Script) (h steps : List Step) (step : Step) → steps ≡ h ++ step ∷ [] → is_history s steps ≡ true
+    → legal s (at s h) step ≡ true
 legal_last s h steps step is all = legal_then s (first_machine s.topology) h step (rw is at all)
 
 -- the same of a step that frees nothing
@@ -81,9 +84,12 @@ goes_same r old new step needs same same_fbs steps is stands is_legal after =
     (plain-from r.script stands.formed) stands.history is_legal needs) same same_fbs steps is stands is_legal after
 
 -- stores that stand do so where clients, answers, what was freed and the end are told anew, and latches have other memory
-pub told_anew : (s : Script) (m : Machine) (st : Stores) (contexts : Contexts) (replies : List Answered) (ended : Bool) (clients : Standing) (answers : Logged Answered) (shown : Logged Latch) (freed : Reserved (ℕ × ℕ)) (stalled : Bool)
-    → AreClientsOf contexts clients → AreRecords (record m.records { replies = replies }) st.journal.items answers.items shown.items → ended ≡ stalled → StandsAt s m st
-    → StandsAt s (record m { contexts = contexts; records = record m.records { replies = replies }; stalled = ended }) (record st { clients = clients; replies = answers; latches = shown; freed = freed; stalled = stalled })
+pub told_anew : (s : Script) (m : Machine) (st : Stores) (contexts : Contexts) (replies : List Answered) (ended : Bool) (clients : Standing)
+    (answers : Logged Answered) (shown : Logged Latch) (freed : Reserved (ℕ × ℕ)) (stalled : Bool)
+    → AreClientsOf contexts clients → AreRecords (record m.records { replies = replies }) st.journal.items answers.items shown.items → ended
+    ≡ stalled → StandsAt s m st
+    → StandsAt s (record m { contexts = contexts; records = record m.records { replies = replies }; stalled = ended })
+    (record st { clients = clients; replies = answers; latches = shown; freed = freed; stalled = stalled })
 told_anew s m st contexts replies ended clients answers shown freed stalled in_step recorded is_ended stands = record {
   clients = in_step;
   recorded = recorded;
@@ -99,9 +105,11 @@ told_anew s m st contexts replies ended clients answers shown freed stalled in_s
 }
 
 -- stores that stand do so with any framebuffers that were freed
-pub with_freed : (s : Script) (m : Machine) (st : Stores) (freed : Reserved (ℕ × ℕ)) → StandsAt s m st → StandsAt s m (record st { freed = freed })
+pub with_freed : (s : Script) (m : Machine) (st : Stores) (freed : Reserved (ℕ × ℕ)) → StandsAt s m st
+    → StandsAt s m (record st { freed = freed })
 with_freed s m st freed stands =
-    told_anew s m st m.contexts m.records.replies m.stalled st.clients st.replies st.latches freed st.stalled stands.clients stands.recorded stands.ended stands
+    told_anew s m st m.contexts m.records.replies m.stalled st.clients st.replies st.latches freed st.stalled stands.clients stands.recorded
+    stands.ended stands
 
 -- and with any references
 pub with_fbs : (s : Script) (m : Machine) (st : Stores) (fbs : List (Slot Framebuffer)) → StandsAt s m st
@@ -141,5 +149,7 @@ written_anew s m shadow marks st tracker new written tracked stands = record {
 }
 
 -- what is freed stands for steps that are the same, with other room
-pub same_freed : (s : Script) (h steps : List Step) (old new : Reserved (ℕ × ℕ)) → steps ≡ h → new.items ≡ old.items → new.places ≡ old.places → AreFreed s h old → AreFreed s steps new
-same_freed s h steps old new is items places freed = rw is (record { items = items ∙ freed.items; places = (let few = freed.places in omega (arith, few, places)) })
+pub same_freed : (s : Script) (h steps : List Step) (old new : Reserved (ℕ × ℕ)) → steps ≡ h → new.items ≡ old.items → new.places
+    ≡ old.places → AreFreed s h old → AreFreed s steps new
+same_freed s h steps old new is items places freed = rw is
+    (record { items = items ∙ freed.items; places = (let few = freed.places in omega (arith, few, places)) })

@@ -11,12 +11,16 @@ use Rattle.kms_core.specs.Calls.{answered, joined}
 use Rattle.kms_core.specs.Stands.{AreRecords, Stores, entry_pair}
 
 -- as many commands were accepted
-pub places_same : (r : Records) (journal : List (ℕ × ℕ)) (replies : List Answered) (latches : List Latch) → AreRecords r journal replies latches → length journal ≡ length r.journal
-places_same r journal replies latches stand = ap length stand.accepted ∙ length-map (reverse r.journal) entry_pair ∙ length-reverse r.journal
+pub places_same : (r : Records) (journal : List (ℕ × ℕ)) (replies : List Answered) (latches : List Latch)
+    → AreRecords r journal replies latches → length journal ≡ length r.journal
+places_same r journal replies latches stand = ap length stand.accepted ∙ length-map (reverse r.journal) entry_pair ∙ length-reverse
+    r.journal
 
 -- a reply is recorded
-pub answered_more : (r : Records) (journal : List (ℕ × ℕ)) (replies : List Answered) (latches : List Latch) (client command : ℕ) (reply : Reply) → AreRecords r journal replies latches
-    → AreRecords (record r { replies = answered client command (length r.journal) reply ∷ r.replies }) journal (replies ++ answered client command (length journal) reply ∷ []) latches
+pub answered_more : (r : Records) (journal : List (ℕ × ℕ)) (replies : List Answered) (latches : List Latch) (client command : ℕ)
+    (reply : Reply) → AreRecords r journal replies latches
+    → AreRecords (record r { replies = answered client command (length r.journal) reply ∷ r.replies }) journal
+    (replies ++ answered client command (length journal) reply ∷ []) latches
 answered_more r journal replies latches client command reply stand = record {
   accepted = stand.accepted;
   answered =
@@ -31,7 +35,8 @@ abbrev pub joined_if : Records → Bool → ℕ → ℕ → Records
 joined_if r false client command = r
 joined_if r true client command = record r { journal = record { client = client; command = command } ∷ r.journal }
 
-pub joined_more : (r : Records) (journal : List (ℕ × ℕ)) (replies : List Answered) (latches : List Latch) (b : Bool) (client command : ℕ) → AreRecords r journal replies latches
+pub joined_more : (r : Records) (journal : List (ℕ × ℕ)) (replies : List Answered) (latches : List Latch) (b : Bool) (client command : ℕ)
+    → AreRecords r journal replies latches
     → AreRecords (joined_if r b client command) (joined journal b client command) replies latches
 joined_more r journal replies latches false client command stand = stand
 joined_more r journal replies latches true client command stand = record {
@@ -45,8 +50,13 @@ joined_more r journal replies latches true client command stand = record {
   e = record { client = client; command = command }
 
 -- the reply to the command at which a client stands
-pub records_answered : (m : Machine) (st : Stores) (client number : ℕ) (reply : Reply) (journal : List (ℕ × ℕ)) (replies : List Answered) → journal ≡ st.journal.items → replies ≡ st.replies.items ++ answered client number (length journal) reply ∷ []
+pub records_answered : (m : Machine) (st : Stores) (client number : ℕ) (reply : Reply) (journal : List (ℕ × ℕ)) (replies : List Answered)
+    → journal ≡ st.journal.items → replies ≡ st.replies.items ++ answered client number (length journal) reply ∷ []
     → number ≡ (place_at m client).command → AreRecords m.records st.journal.items st.replies.items st.latches.items
-    → AreRecords (record m.records { replies = answered client (place_at m client).command (length m.records.journal) reply ∷ m.records.replies }) journal replies st.latches.items
+    → AreRecords (record m.records {
+      replies = answered client (place_at m client).command (length m.records.journal) reply
+          ∷ m.records.replies;
+    }) journal replies st.latches.items
 records_answered m st client number reply journal replies kept more same stand =
-    rw (more, kept, same) (answered_more m.records st.journal.items st.replies.items st.latches.items client (place_at m client).command reply stand)
+    rw (more, kept, same) (answered_more m.records st.journal.items st.replies.items st.latches.items client (place_at m client).command
+    reply stand)

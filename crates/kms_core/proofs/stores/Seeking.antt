@@ -1,5 +1,6 @@
 -- The first commit that may be claimed is found.
-use Rattle.std.proofs.Common.{◌≡◌, ℕ, zero, suc, ◌+◌, ◌-◌, ◌<◌, ◌≤◌, Bool, true, false, List, length, Option, Some, None, inl, inr, ⊎_elim, refl, sym, ap, ◌∙◌, subst, arith}
+use Rattle.std.proofs.Common.{◌≡◌, ℕ, zero, suc, ◌+◌, ◌-◌, ◌<◌, ◌≤◌, Bool, true, false, List, length, Option, Some, None, inl, inr, ⊎_elim}
+use Rattle.std.proofs.Common.{refl, sym, ap, ◌∙◌, subst, arith}
 use Rattle.std.specs.Prelude.{find, not, nat_lt, ◌&&◌}
 use Rattle.std.specs.List.{range_with_len}
 use Rattle.std.proofs.lemmas.Bool.{cases_lt, false≢true}
@@ -46,7 +47,8 @@ none_passed v test t commits marks latches stand j low within = absurd (omega (a
 pub one_passed : (v : Tracking) (test : ℕ → Bool) (from k : ℕ) → ArePassed v test from → FindsFirst v from (Some k) → test k ≡ false
     → ArePassed v test (k + 1)
 one_passed v test from k passed first fails t commits marks latches stand =
-    up_to_first t commits marks latches v stand (λ j. j < length commits → IsPassedBy marks test j) (λ j cleaned within. inl cleaned) from k first (λ within. inr fails) (passed t commits marks latches stand)
+    up_to_first t commits marks latches v stand (λ j. j < length commits → IsPassedBy marks test j) (λ j cleaned within. inl cleaned) from k
+    first (λ within. inr fails) (passed t commits marks latches stand)
 
 pub one_found : (v : Tracking) (test : ℕ → Bool) (from k : ℕ) → ArePassed v test from → FindsFirst v from (Some k) → test k ≡ true
     → FindsFirstWhere v test (Some k)
@@ -54,12 +56,14 @@ one_found v test from k passed first passes t commits marks latches stand =
     let within : k < length commits = (first t commits marks latches stand).1 in (
       within,
       passes,
-      λ j before. before_first t commits marks latches v stand (λ i. i < length commits → IsPassedBy marks test i) (λ i cleaned inside. inl cleaned) from k first (passed t commits marks latches stand) j before (omega (arith, before, within)),
+      λ j before. before_first t commits marks latches v stand (λ i. i < length commits → IsPassedBy marks test i)
+          (λ i cleaned inside. inl cleaned) from k first (passed t commits marks latches stand) j before (omega (arith, before, within)),
     )
 
 pub none_found : (v : Tracking) (test : ℕ → Bool) (from : ℕ) → ArePassed v test from → FindsFirst v from None → FindsFirstWhere v test None
 none_found v test from passed first t commits marks latches stand j within =
-    of_all t commits marks latches v stand (λ i. i < length commits → IsPassedBy marks test i) (λ i cleaned inside. inl cleaned) from first (passed t commits marks latches stand) j within within
+    of_all t commits marks latches v stand (λ i. i < length commits → IsPassedBy marks test i) (λ i cleaned inside. inl cleaned) from first
+    (passed t commits marks latches stand) j within within
 
 -- the number found is not below the one that was sought from, and there is a number above it
 pub record GoesUp (from k : ℕ) : Type 0 where
@@ -92,7 +96,8 @@ both_off false b = refl
 crtc_low : (t : Topology) (crtc : ℕ) → HasFewObjects t → IsObject t Crtc crtc → index_of crtc < 4
 crtc_low t crtc few object =
     let within = object.within in
-    let at : index_of crtc ≡ object.index = ap index_of object.same ∙ index_of-object Crtc object.index (omega (arith, within, few.crtcs)) in
+    let at : index_of crtc ≡ object.index = ap index_of object.same ∙ index_of-object Crtc object.index (omega (arith, within, few.crtcs))
+    in
     omega (arith, at, within, few.crtcs)
 
 going_only : (ended may : Bool) → ended ≡ false → (not ended && may) ≡ may
@@ -101,13 +106,17 @@ going_only false may off = refl
 
 find_none : (p : ℕ → Bool) (a n : ℕ) → ((j : ℕ) → a ≤ j → j < a + n → p j ≡ false) → find p (range_with_len a n) ≡ None
 find_none p a zero fails = refl
-find_none p a (suc n) fails = rw (fails a (omega arith) (omega arith)) (find_none p (a + 1) n (λ j low high. fails j (omega (arith, low)) (omega (arith, high))))
+find_none p a (suc n) fails = rw (fails a (omega arith) (omega arith))
+    (find_none p (a + 1) n (λ j low high. fails j (omega (arith, low)) (omega (arith, high))))
 
-find_first : (p : ℕ → Bool) (a n k : ℕ) → a ≤ k → k < a + n → p k ≡ true → ((j : ℕ) → a ≤ j → j < k → p j ≡ false) → find p (range_with_len a n) ≡ Some k
+find_first : (p : ℕ → Bool) (a n k : ℕ) → a ≤ k → k < a + n → p k ≡ true → ((j : ℕ) → a ≤ j → j < k → p j ≡ false)
+    → find p (range_with_len a n) ≡ Some k
 find_first p a zero k low high passes fails = absurd (omega (arith, low, high))
 find_first p a (suc n) k low high passes fails =
     elim (cases_lt a k) [
-      | inl before ↦ rw (fails a (omega arith) before) (find_first p (a + 1) n k (omega (arith, before)) (omega (arith, high)) passes (λ j above below. fails j (omega (arith, above)) below))
+      | inl before ↦ rw (fails a (omega arith) before)
+          (find_first p (a + 1) n k (omega (arith, before)) (omega (arith, high)) passes
+          (λ j above below. fails j (omega (arith, above)) below))
       | inr behind ↦ (let same : a ≡ k = omega (arith, low, behind) in rw (ap p same ∙ passes) (ap (λ (n : ℕ). Some n) same))
     ]
 
@@ -124,13 +133,15 @@ few_tails r st stands =
     }
 
 -- the fences that a commit waits for were made
-pub waited_made : (r : Run) (st : Stores) (k id : ℕ) → Stands r st → k < length (machine r).device.commits → IsIn id (waited_fences r.script.topology (machine r).device.commits k) → is_made st.fences id ≡ true
+pub waited_made : (r : Run) (st : Stores) (k id : ℕ) → Stands r st → k < length (machine r).device.commits
+    → IsIn id (waited_fences r.script.topology (machine r).device.commits k) → is_made st.fences id ≡ true
 waited_made r st k id stands within is =
     let t = r.script.topology in
     let d = (machine r).device in
     let w : IsWaited t d.world.things d.commits k id = (facts r st stands).fences.waits k id within is in
     ⊎_elim
-    (λ (fence : w.thing.content ≡ content.Fence). subst (λ n. is_made st.fences n ≡ true) w.same_id (thing_made st.fences d.world.things w.label w.thing stands.stores.fenced.made w.found (ap is_fence fence)))
+    (λ (fence : w.thing.content ≡ content.Fence). subst (λ n. is_made st.fences n ≡ true) w.same_id
+    (thing_made st.fences d.world.things w.label w.thing stands.stores.fenced.made w.found (ap is_fence fence)))
     (λ (out : IsOutFence t d.commits k id). (
     let few = few_objects t stands.formed.device in
     let object : IsObject t Crtc out.crtc = ids-in t Crtc out.crtc out.is_crtc in
@@ -140,7 +151,8 @@ waited_made r st k id stands within is =
     w.kind
 
 -- a commit's claim is legal where the tracker says that the commit is ready
-claim_is : (r : Run) (st : Stores) (k : ℕ) → Stands r st → IsGoing r → k < length (machine r).device.commits → legal r.script (machine r) (step.Claim k) ≡ ready_of st.tracker st.fences k
+claim_is : (r : Run) (st : Stores) (k : ℕ) → Stands r st → IsGoing r → k < length (machine r).device.commits
+    → legal r.script (machine r) (step.Claim k) ≡ ready_of st.tracker st.fences k
 unfolding legal may
 claim_is r st k stands going within =
     going_only (machine r).stalled (may_claim r.script.topology (machine r) k) going
@@ -149,21 +161,27 @@ claim_is r st k stands going within =
     (λ id is. stands.stores.fences.same id (waited_made r st k id stands within is)))
 
 -- the claim of a commit that is cleaned is not
-claim_over : (r : Run) (st : Stores) (k : ℕ) → Stands r st → has_number (machine r).device.marks.cleaned k ≡ true → legal r.script (machine r) (step.Claim k) ≡ false
+claim_over : (r : Run) (st : Stores) (k : ℕ) → Stands r st → has_number (machine r).device.marks.cleaned k ≡ true
+    → legal r.script (machine r) (step.Claim k) ≡ false
 unfolding legal may may_claim
 claim_over r st k stands cleaned =
     let marks = (facts r st stands).holds.tail.marks in
     let claimed : is_claimed (machine r).device k ≡ true = (marks.done k (marks.clean_done k cleaned)).0 in
     rw claimed (both_off (not (machine r).stalled) (nat_lt k (length (machine r).device.commits)))
 
-passed_by : (r : Run) (st : Stores) (k : ℕ) → Stands r st → IsGoing r → k < length (machine r).device.commits → IsPassedBy (machine r).device.marks (ready_of st.tracker st.fences) k → legal r.script (machine r) (step.Claim k) ≡ false
-passed_by r st k stands going within passed = ⊎_elim (λ cleaned. claim_over r st k stands cleaned) (λ fails. claim_is r st k stands going within ∙ fails) passed
+passed_by : (r : Run) (st : Stores) (k : ℕ) → Stands r st → IsGoing r → k < length (machine r).device.commits
+    → IsPassedBy (machine r).device.marks (ready_of st.tracker st.fences) k → legal r.script (machine r) (step.Claim k) ≡ false
+passed_by r st k stands going within passed = ⊎_elim (λ cleaned. claim_over r st k stands cleaned)
+    (λ fails. claim_is r st k stands going within ∙ fails) passed
 
-answered : (r : Run) (st : Stores) (found : Option ℕ) → Stands r st → IsGoing r → IsFirstOf (machine r).device.marks (length (machine r).device.commits) (ready_of st.tracker st.fences) found → found ≡ first_claim r
-answered r st None stands going first = sym (find_none (λ k. legal r.script (machine r) (step.Claim k)) 0 (length (machine r).device.commits) (λ j low high. passed_by r st j stands going (omega (arith, high)) (first j (omega (arith, high)))))
+answered : (r : Run) (st : Stores) (found : Option ℕ) → Stands r st → IsGoing r
+    → IsFirstOf (machine r).device.marks (length (machine r).device.commits) (ready_of st.tracker st.fences) found → found ≡ first_claim r
+answered r st None stands going first = sym (find_none (λ k. legal r.script (machine r) (step.Claim k)) 0
+    (length (machine r).device.commits) (λ j low high. passed_by r st j stands going (omega (arith, high)) (first j (omega (arith, high)))))
 answered r st (Some k) stands going first =
     let within = first.0 in
-    sym (find_first (λ k. legal r.script (machine r) (step.Claim k)) 0 (length (machine r).device.commits) k (omega arith) (omega (arith, within)) (claim_is r st k stands going within ∙ first.1)
+    sym (find_first (λ k. legal r.script (machine r) (step.Claim k)) 0 (length (machine r).device.commits) k (omega arith)
+    (omega (arith, within)) (claim_is r st k stands going within ∙ first.1)
     (λ j low before. passed_by r st j stands going (omega (arith, before, within)) (first.2 j before)))
 
 pub claim_found : (r v : Run) (st : Stores) (found : Option ℕ) → Stands r st → r ≡ v → st.stalled ≡ false
@@ -184,5 +202,6 @@ claim_legal r v st k stands same going first =
 pub claim_none : (r v : Run) (st : Stores) → Stands r st → r ≡ v → st.stalled ≡ true → None ≡ first_claim v
 unfolding legal
 claim_none r v st stands same ended =
-    sym (find_none (λ k. legal r.script (machine r) (step.Claim k)) 0 (length (machine r).device.commits) (λ j low high. ap (λ b. not b && may r.script (machine r) (step.Claim j)) (stands.stores.ended ∙ ended)))
+    sym (find_none (λ k. legal r.script (machine r) (step.Claim k)) 0 (length (machine r).device.commits)
+    (λ j low high. ap (λ b. not b && may r.script (machine r) (step.Claim j)) (stands.stores.ended ∙ ended)))
     ∙ ap first_claim same

@@ -1,5 +1,6 @@
 -- Memory for the steps that tails have left.
-use Rattle.std.proofs.Common.{◌≡◌, ℕ, zero, suc, ◌+◌, ◌*◌, ◌<◌, ◌≤◌, true, false, List, [], ◌∷◌, ◌++◌, length, Option, Some, None, inl, inr, refl, sym, ap, ◌∙◌, subst, arith}
+use Rattle.std.proofs.Common.{◌≡◌, ℕ, zero, suc, ◌+◌, ◌*◌, ◌<◌, ◌≤◌, true, false, List, [], ◌∷◌, ◌++◌, length, Option, Some, None, inl, inr}
+use Rattle.std.proofs.Common.{refl, sym, ap, ◌∙◌, subst, arith}
 use Rattle.std.specs.Prelude.{◌==◌, is_some, if◌then◌else◌}
 use Rattle.std.proofs.lemmas.Bool.{cases_Bool, cases_eq, eq-eqb, ne_eqb}
 use Rattle.kms_model.specs.Firsts.{one_if}
@@ -35,7 +36,8 @@ sum_both f g from (suc n) = (let rest = sum_both f g (from + 1) n in omega (arit
 
 sum_none : (f : ℕ → ℕ) (from n : ℕ) → ((k : ℕ) → from ≤ k → f k ≡ 0) → sum f from n ≡ 0
 sum_none f from zero fails = refl
-sum_none f from (suc n) fails = (let one = fails from (omega arith) in let rest = sum_none f (from + 1) n (λ k l. fails k (omega (arith, l))) in omega (arith, one, rest))
+sum_none f from (suc n) fails = (let one = fails from (omega arith)
+    in let rest = sum_none f (from + 1) n (λ k l. fails k (omega (arith, l))) in omega (arith, one, rest))
 
 -- 31 for one number
 abbrev at_number : ℕ → ℕ → ℕ
@@ -47,7 +49,8 @@ sum_at id from (suc n) =
     elim (cases_eq id from) [
       | inl same ↦
           (let one : at_number id from ≡ 31 = ap (λ b. 31 * one_if b) (eq-eqb id from same) in
-          let rest = sum_none (at_number id) (from + 1) n (λ k l. ap (λ b. 31 * one_if b) (ne_eqb id k (λ e. absurd (omega (arith, e, same, l))))) in
+          let rest = sum_none (at_number id) (from + 1) n
+          (λ k l. ap (λ b. 31 * one_if b) (ne_eqb id k (λ e. absurd (omega (arith, e, same, l))))) in
           omega (arith, one, rest))
       | inr apart ↦
           (let none : at_number id from ≡ 0 = ap (λ b. 31 * one_if b) (ne_eqb id from apart) in
@@ -95,14 +98,17 @@ few_left r st stands =
 abbrev pub with_steps : Run → List Step → Run
 with_steps r steps = record { script = r.script; steps = steps }
 
-shorter : (r : Run) (old new : Stores) (step : Step) (before steps : List Step) → Stands r old → Stands (with_steps r steps) new → before ≡ r.steps → steps ≡ before ++ step ∷ [] → LeavesLessInAll r.script.topology (machine r) (machine (with_steps r steps)) step
+shorter : (r : Run) (old new : Stores) (step : Step) (before steps : List Step) → Stands r old → Stands (with_steps r steps) new → before
+    ≡ r.steps → steps ≡ before ++ step ∷ [] → LeavesLessInAll r.script.topology (machine r) (machine (with_steps r steps)) step
 shorter r old new step before steps stands after was more =
     let is : steps ≡ r.steps ++ step ∷ [] = more ∙ ap (λ (h : List Step). h ++ step ∷ []) was in
     let allowed = legal_last r.script r.steps steps step is after.history in
-    subst (λ m. LeavesLessInAll r.script.topology (machine r) m step) (sym (ap (at r.script) is ∙ run-more r.script _ r.steps step)) (all_shorter r.script (machine r) (facts r old stands).holds step allowed)
+    subst (λ m. LeavesLessInAll r.script.topology (machine r) m step) (sym (ap (at r.script) is ∙ run-more r.script _ r.steps step))
+    (all_shorter r.script (machine r) (facts r old stands).holds step allowed)
 
 -- a step that is of no tail
-pub other_spared : (r : Run) (old new : Stores) (step : Step) (before steps : List Step) (was made room latches : ℕ) → Stands r old → Stands (with_steps r steps) new → before ≡ r.steps → steps ≡ before ++ step ∷ [] → is_swap step ≡ false
+pub other_spared : (r : Run) (old new : Stores) (step : Step) (before steps : List Step) (was made room latches : ℕ) → Stands r old
+    → Stands (with_steps r steps) new → before ≡ r.steps → steps ≡ before ++ step ∷ [] → is_swap step ≡ false
     → HasSpare r was latches → 31 * length old.tracker.tails.slots < made → made ≤ room + 1 → HasSpare (with_steps r steps) room latches
 other_spared r old new step before steps was made room latches stands after same more other spare enough pushed =
     let less = (shorter r old new step before steps stands after same more).of_others other in
@@ -111,8 +117,10 @@ other_spared r old new step before steps was made room latches stands after same
     record { steps = omega (arith, less, few, enough, pushed); latches = omega (arith, less, l) }
 
 -- a step of a tail, with or without a latch
-pub tail_spared : (r : Run) (old new : Stores) (step : Step) (k : ℕ) (before steps : List Step) (made shown room latches : ℕ) → Stands r old → Stands (with_steps r steps) new → before ≡ r.steps → steps ≡ before ++ step ∷ []
-    → k < length (machine r).device.commits → commit_of_step (machine r) step ≡ Some k → HasSpare r made shown → made ≤ room + 1 → shown ≤ latches + 1 → HasSpare (with_steps r steps) room latches
+pub tail_spared : (r : Run) (old new : Stores) (step : Step) (k : ℕ) (before steps : List Step) (made shown room latches : ℕ) → Stands r old
+    → Stands (with_steps r steps) new → before ≡ r.steps → steps ≡ before ++ step ∷ []
+    → k < length (machine r).device.commits → commit_of_step (machine r) step ≡ Some k → HasSpare r made shown → made ≤ room + 1 → shown
+    ≤ latches + 1 → HasSpare (with_steps r steps) room latches
 tail_spared r old new step k before steps made shown room latches stands after same more within of spare pushed recorded =
     let less = (shorter r old new step before steps stands after same more).of_tail k within of in
     let s = spare.steps in
@@ -120,7 +128,8 @@ tail_spared r old new step k before steps made shown room latches stands after s
     record { steps = omega (arith, less, s, pushed); latches = omega (arith, less, l, recorded) }
 
 -- a swap
-pub swap_spared : (r : Run) (old new : Stores) (step : Step) (before steps : List Step) (made room latches : ℕ) → Stands r old → Stands (with_steps r steps) new → before ≡ r.steps → steps ≡ before ++ step ∷ []
+pub swap_spared : (r : Run) (old new : Stores) (step : Step) (before steps : List Step) (made room latches : ℕ) → Stands r old
+    → Stands (with_steps r steps) new → before ≡ r.steps → steps ≡ before ++ step ∷ []
     → 31 * length old.tracker.tails.slots + 32 ≤ made → made ≤ room + 1 → 31 * length old.tracker.tails.slots + 31 ≤ latches
     → HasSpare (with_steps r steps) room latches
 swap_spared r old new step before steps made room latches stands after same more enough pushed shown =
@@ -129,9 +138,11 @@ swap_spared r old new step before steps made room latches stands after same more
     record { steps = omega (arith, less, few, enough, pushed); latches = omega (arith, less, few, shown) }
 
 -- no step, with more memory
-pub still_spared : (r : Run) (steps : List Step) (was room shown latches : ℕ) → steps ≡ r.steps → HasSpare r was shown → was ≤ room → shown ≤ latches → HasSpare (with_steps r steps) room latches
+pub still_spared : (r : Run) (steps : List Step) (was room shown latches : ℕ) → steps ≡ r.steps → HasSpare r was shown → was ≤ room → shown
+    ≤ latches → HasSpare (with_steps r steps) room latches
 still_spared r steps was room shown latches same spare more longer =
-    subst (λ h. HasSpare (with_steps r h) room latches) (sym same) (let s = spare.steps in let l = spare.latches in record { steps = omega (arith, s, more); latches = omega (arith, l, longer) })
+    subst (λ h. HasSpare (with_steps r h) room latches) (sym same)
+    (let s = spare.steps in let l = spare.latches in record { steps = omega (arith, s, more); latches = omega (arith, l, longer) })
 
 pub same_le : (n : ℕ) → n ≤ n
 same_le n = omega arith
@@ -140,27 +151,41 @@ pub then_le : (a b c : ℕ) → a ≤ b → b ≤ c → a ≤ c
 then_le a b c first next = omega (arith, first, next)
 
 -- the stores stand where latches have other memory
-pub with_latches : (r : Run) (st : Stores) (shown : Logged Latch) → Stands r st → shown.items ≡ st.latches.items → Stands r (record st { latches = shown })
+pub with_latches : (r : Run) (st : Stores) (shown : Logged Latch) → Stands r st → shown.items ≡ st.latches.items
+    → Stands r (record st { latches = shown })
 with_latches r st shown stands is = record {
   formed = stands.formed;
   history = stands.history;
-  stores = told_anew r.script (machine r) st (machine r).contexts (machine r).records.replies (machine r).stalled st.clients st.replies shown st.freed st.stalled stands.stores.clients
-      (record { accepted = stands.stores.recorded.accepted; answered = stands.stores.recorded.answered; latched = is ∙ stands.stores.recorded.latched }) stands.stores.ended stands.stores;
+  stores = told_anew r.script (machine r) st (machine r).contexts (machine r).records.replies (machine r).stalled st.clients st.replies
+      shown st.freed st.stalled stands.stores.clients
+      (record {
+        accepted = stands.stores.recorded.accepted;
+        answered = stands.stores.recorded.answered;
+        latched = is ∙
+            stands.stores.recorded.latched;
+      }) stands.stores.ended stands.stores;
   freed = stands.freed;
   stored = stands.stored;
 }
 
 -- all holds where nothing but memory for steps was taken
-pub still_holds : (r : Run) (st : Stores) (steps : List Step) (was room : ℕ) → StandsWithSpare r st was → steps ≡ r.steps → was ≤ room → StandsWithSpare (with_steps r steps) st room
+pub still_holds : (r : Run) (st : Stores) (steps : List Step) (was room : ℕ) → StandsWithSpare r st was → steps ≡ r.steps → was ≤ room
+    → StandsWithSpare (with_steps r steps) st room
 still_holds r st steps was room holds same more =
-    subst (λ h. StandsWithSpare (with_steps r h) st room) (sym same) (record { stands = holds.stands; spare = (let s = holds.spare.steps in record { steps = omega (arith, s, more); latches = holds.spare.latches }) })
+    subst (λ h. StandsWithSpare (with_steps r h) st room) (sym same)
+    (record {
+      stands = holds.stands;
+      spare = (let s = holds.spare.steps
+          in record { steps = omega (arith, s, more); latches = holds.spare.latches });
+    })
 
 -- there is memory for a step of a tail that is legal, and for its latch
 pub record HasRoom (room latches : ℕ) : Type 0 where
   pub step : 0 < room
   pub latch : 0 < latches
 
-pub tail_room : (r : Run) (st : Stores) (step : Step) (k room latches : ℕ) → Stands r st → legal r.script (machine r) step ≡ true → k < length (machine r).device.commits → commit_of_step (machine r) step ≡ Some k → HasSpare r room latches → HasRoom room latches
+pub tail_room : (r : Run) (st : Stores) (step : Step) (k room latches : ℕ) → Stands r st → legal r.script (machine r) step ≡ true → k
+    < length (machine r).device.commits → commit_of_step (machine r) step ≡ Some k → HasSpare r room latches → HasRoom room latches
 tail_room r st step k room latches stands is within of spare =
     let less = (all_shorter r.script (machine r) (facts r st stands).holds step is).of_tail k within of in
     let s = spare.steps in
@@ -173,24 +198,30 @@ pub record IsOwn (r : Run) (step : Step) (k : ℕ) : Type 0 where
   pub within : k < length (machine r).device.commits
   pub of : commit_of_step (machine r) step ≡ Some k
 
-pub own_step : (r : Run) (st : Stores) (step : Step) (k : ℕ) → Stands r st → commit_of_tail_step step ≡ Some k → commit_of_step (machine r) step ≡ Some k → legal r.script (machine r) step ≡ true → IsOwn r step k
+pub own_step : (r : Run) (st : Stores) (step : Step) (k : ℕ) → Stands r st → commit_of_tail_step step ≡ Some k
+    → commit_of_step (machine r) step ≡ Some k → legal r.script (machine r) step ≡ true → IsOwn r step k
 own_step r st step k stands told of is =
     record { is_legal = is; within = legal_below r.script (machine r) step k st.tracker told is stands.stores.tracker; of = of }
 
-pub own_room : (r : Run) (st : Stores) (step : Step) (k room latches : ℕ) → Stands r st → IsOwn r step k → HasSpare r room latches → HasRoom room latches
+pub own_room : (r : Run) (st : Stores) (step : Step) (k room latches : ℕ) → Stands r st → IsOwn r step k → HasSpare r room latches
+    → HasRoom room latches
 own_room r st step k room latches stands own spare = tail_room r st step k room latches stands own.is_legal own.within own.of spare
 
 -- it takes one place, and no latch
-pub own_spared : (r : Run) (old new : Stores) (step : Step) (k : ℕ) (steps : List Step) (made shown room : ℕ) → Stands r old → Stands (with_steps r steps) new → steps ≡ r.steps ++ step ∷ [] → IsOwn r step k → HasSpare r made shown → made ≤ room + 1
+pub own_spared : (r : Run) (old new : Stores) (step : Step) (k : ℕ) (steps : List Step) (made shown room : ℕ) → Stands r old
+    → Stands (with_steps r steps) new → steps ≡ r.steps ++ step ∷ [] → IsOwn r step k → HasSpare r made shown → made ≤ room + 1
     → HasSpare (with_steps r steps) room shown
-own_spared r old new step k steps made shown room stands after more own spare pushed = tail_spared r old new step k r.steps steps made shown room shown stands after refl more own.within own.of spare pushed (omega arith)
+own_spared r old new step k steps made shown room stands after more own spare pushed = tail_spared r old new step k r.steps steps made shown
+    room shown stands after refl more own.within own.of spare pushed (omega arith)
 
 -- a decision is no swap: it leaves the commits
 pub decision_other : (r : Run) (client : ℕ) (step : Step) (reply : Reply) → Decides r client step reply → is_swap step ≡ false
 decision_other r client step reply decides =
-    let many : length (machine r).device.commits ≡ (if is_swap step then suc (length (machine r).device.commits) else length (machine r).device.commits) =
+    let many : length (machine r).device.commits ≡ (if is_swap step then suc (length (machine r).device.commits)
+    else length (machine r).device.commits) =
     sym (ap (λ (m : Machine). length m.device.commits) decides.does) ∙ commits_counted r.script (machine r) step decides.legal in
     elim (cases_Bool (is_swap step)) [
-      | inl swaps ↦ (let more : length (machine r).device.commits ≡ suc (length (machine r).device.commits) = rw swaps at many in absurd (omega (arith, more)))
+      | inl swaps ↦ (let more : length (machine r).device.commits ≡ suc (length (machine r).device.commits) = rw swaps at many
+          in absurd (omega (arith, more)))
       | inr other ↦ other
     ]

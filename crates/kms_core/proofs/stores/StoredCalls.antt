@@ -1,5 +1,6 @@
 -- What a command leaves in the store of framebuffers.
-use Rattle.std.proofs.Common.{◌≡◌, ℕ, ◌+◌, ◌-◌, ◌==◌, Bool, true, false, List, [], ◌∷◌, ◌++◌, length, Option, Some, None, refl, sym, ap, ◌∙◌, subst, arith}
+use Rattle.std.proofs.Common.{◌≡◌, ℕ, ◌+◌, ◌-◌, ◌==◌, Bool, true, false, List, [], ◌∷◌, ◌++◌, length, Option, Some, None, refl, sym, ap}
+use Rattle.std.proofs.Common.{◌∙◌, subst, arith}
 use Rattle.std.specs.Prelude.{if◌then◌else◌, ⊤, IfSome}
 use Rattle.kms_model.specs.declared.objects.Topology.{Topology}
 use Rattle.kms_model.specs.declared.replies.Reply.{Reply}
@@ -17,13 +18,15 @@ use Rattle.kms_model.specs.Device.Execution.{BufferInfo, add_fb, buffer_of, clos
 use Rattle.kms_model.specs.Device.Sound.{AreNumbered}
 use Rattle.kms_model.specs.Device.World.{thing_labelled, thing_with_id}
 use Rattle.kms_model.specs.Machine.State.{Machine}
-use Rattle.kms_model.specs.Things.Kept.{MayGive, MayTake, after_give, after_take, fbs_closed, fbs_given, fbs_taken, framebuffer, open_references, taken}
+use Rattle.kms_model.specs.Things.Kept.{MayGive, MayTake, after_give, after_take, fbs_closed, fbs_given, fbs_taken, framebuffer}
+use Rattle.kms_model.specs.Things.Kept.{open_references, taken}
 use Rattle.kms_model.specs.Things.Tables.{slot, value_with_id, with_value, without_id}
 use Rattle.kms_core.specs.Freeing.{AreRising, entry_of, freed_among, freed_entry}
 use Rattle.kms_core.specs.Stored.{AreHeld, AreStored, held_as, held_where, without_freed}
 use Rattle.kms_core.proofs.freeing.FreedLists.{rising_weaker}
 use Rattle.kms_core.proofs.freeing.FreedMakes.{IsAdded, IsClosed}
-use Rattle.kms_core.proofs.freeing.StoredSteps.{added_stored, held_without, joined_freed, push_other, push_this, unstored, with_other, with_this}
+use Rattle.kms_core.proofs.freeing.StoredSteps.{added_stored, held_without, joined_freed, push_other, push_this, unstored, with_other}
+use Rattle.kms_core.proofs.freeing.StoredSteps.{with_this}
 use Rattle.kms_things.specs.Counting.{fbs_added, fbs_after, fbs_without}
 use Rattle.kms_regs.specs.File.{RegisterFile}
 use Rattle.kms_track.specs.Tracking.{Tracking}

@@ -1,5 +1,6 @@
 -- A CRTC has a vblank.
-use Rattle.std.proofs.Common.{◌≡◌, ℕ, ◌+◌, ◌<◌, ◌≤◌, Bool, true, false, List, [], ◌∷◌, ◌++◌, length, length-append, reverse, Option, Some, None, inl, inr, refl, sym, ap, ◌∙◌, subst, arith}
+use Rattle.std.proofs.Common.{◌≡◌, ℕ, ◌+◌, ◌<◌, ◌≤◌, Bool, true, false, List, [], ◌∷◌, ◌++◌, length, length-append, reverse, Option, Some}
+use Rattle.std.proofs.Common.{None, inl, inr, refl, sym, ap, ◌∙◌, subst, arith}
 use Rattle.std.specs.Prelude.{if◌then◌else◌, is_some, not, slice_index_or, slice_set}
 use Rattle.std.proofs.lemmas.Bool.{and_parts, false_from_ne_true, ltb-true}
 use Rattle.std.proofs.lemmas.Bool.Decides.{eqb_tells}
@@ -27,7 +28,8 @@ use Rattle.kms_laws.proofs.EventsKept.{reserved_some}
 use Rattle.kms_laws.proofs.Modes.{plain-from}
 use Rattle.kms_laws.proofs.Objects.{crtc_registered, names-touches}
 use Rattle.kms_laws.proofs.SmallNumbers.{numbers_fit}
-use Rattle.kms_regs.specs.File.{RegisterFile, StandsForDevice, blanked, blanked_picture, blanking_count, counted, latched_device, latched_picture}
+use Rattle.kms_regs.specs.File.{RegisterFile, StandsForDevice, blanked, blanked_picture, blanking_count, counted, latched_device}
+use Rattle.kms_regs.specs.File.{latched_picture}
 use Rattle.kms_regs.specs.StepLaws.{Blanks}
 use Rattle.kms_regs.proofs.MachineEffects as registers_follow
 use Rattle.kms_signal.specs.FenceSets.{FenceSet}
@@ -53,7 +55,8 @@ use Rattle.kms_core.proofs.freeing.FreedSteps.{SameNeeds}
 use Rattle.kms_core.proofs.stores.Histories.{goes_same}
 use Rattle.kms_model.specs.Machine.Framebuffers.{picture_names}
 use Rattle.kms_model.specs.Machine.Registers.{decoded_picture}
-use Rattle.kms_core.proofs.tails.Latched.{FoundTail, SameParts, found_tail, going_set, is_latching, latched_shown, latches_go, latches_signalled, more_signalled, same_latches, stands_shown}
+use Rattle.kms_core.proofs.tails.Latched.{FoundTail, SameParts, found_tail, going_set, is_latching, latched_shown, latches_go}
+use Rattle.kms_core.proofs.tails.Latched.{latches_signalled, more_signalled, same_latches, stands_shown}
 
 -- What is asked
 
@@ -72,12 +75,14 @@ blanks_low r v st crtc stands same asked =
     omega (arith, there, few.crtcs)
 
 -- the count fits
-pub count_fits : (r : Run) (st : Stores) (crtc : ℕ) (step : Step) (before steps : List Step) → Stands r st → before ≡ r.steps → steps ≡ before ++ step ∷ [] → length steps ≤ 18446744073709551615
+pub count_fits : (r : Run) (st : Stores) (crtc : ℕ) (step : Step) (before steps : List Step) → Stands r st → before ≡ r.steps → steps
+    ≡ before ++ step ∷ [] → length steps ≤ 18446744073709551615
     → blanking_count st.registers (object_id Crtc crtc) < 18446744073709551615
 count_fits r st crtc step before steps stands is more fits =
     let few = (numbers_fit r.script r.steps stands.formed stands.history).counts (object_id Crtc crtc) in
     let same = stands.stores.registers.counted crtc in
-    let long : length steps ≡ length r.steps + 1 = ap length more ∙ length-append before (step ∷ []) ∙ ap (λ (h : List Step). length h + 1) is in
+    let long : length steps ≡ length r.steps + 1 = ap length more ∙ length-append before (step ∷ []) ∙ ap (λ (h : List Step). length h + 1)
+    is in
     omega (arith, few, same, long, fits)
 
 -- What the register file answers
@@ -94,18 +99,24 @@ picture_from None p q is = absurd cc
 picture_from (Some k) p q is = cc
 
 -- whether it goes is told by the commits that have GO
-pub goes_is : (r v : Run) (st : Stores) (crtc : ℕ) (o : Option ℕ) → Stands r st → r ≡ v → crtc < 4 → slice_index_or st.goes crtc None ≡ o → is_some o ≡ goes_at v crtc
-goes_is r v st crtc o stands same low is = ap (λ (p : Option ℕ). is_some p) (sym (stands.stores.going.go crtc low ∙ is)) ∙ ap (λ (w : Run). goes_at w crtc) same
+pub goes_is : (r v : Run) (st : Stores) (crtc : ℕ) (o : Option ℕ) → Stands r st → r ≡ v → crtc < 4 → slice_index_or st.goes crtc None ≡ o
+    → is_some o ≡ goes_at v crtc
+goes_is r v st crtc o stands same low is = ap (λ (p : Option ℕ). is_some p) (sym (stands.stores.going.go crtc low ∙ is)) ∙ ap
+    (λ (w : Run). goes_at w crtc) same
 
 -- one that goes has a picture
-pub has_picture : (r : Run) (st : Stores) (k crtc : ℕ) → Stands r st → crtc < 4 → slice_index_or st.goes crtc None ≡ Some k → TellsBlank st.registers crtc None → ⊥
+pub has_picture : (r : Run) (st : Stores) (k crtc : ℕ) → Stands r st → crtc < 4 → slice_index_or st.goes crtc None ≡ Some k
+    → TellsBlank st.registers crtc None → ⊥
 has_picture r st k crtc stands low is tells =
-    let none : go_at (machine r).device (object_id Crtc crtc) ≡ None = none_from (go_at (machine r).device (object_id Crtc crtc)) _ (tells r.script.topology (machine r).device stands.stores.registers) in
+    let none : go_at (machine r).device (object_id Crtc crtc)
+    ≡ None = none_from (go_at (machine r).device (object_id Crtc crtc)) _
+    (tells r.script.topology (machine r).device stands.stores.registers) in
     let both : Some k ≡ None = sym (stands.stores.going.go crtc low ∙ is) ∙ none in
     absurd cc
 
 -- an item of the list, by any default
-pub at_goes : (r : Run) (st : Stores) (crtc : ℕ) (e : Option ℕ) → Stands r st → crtc < 4 → slice_index_or st.goes crtc None ≡ slice_index_or st.goes crtc e
+pub at_goes : (r : Run) (st : Stores) (crtc : ℕ) (e : Option ℕ) → Stands r st → crtc < 4 → slice_index_or st.goes crtc None
+    ≡ slice_index_or st.goes crtc e
 at_goes r st crtc e stands low = let size = stands.stores.going.size in get_or_default st.goes crtc None e (omega (arith, size, low))
 
 -- Without GO
@@ -117,18 +128,29 @@ record IsBlank (m : Machine) (crtc : ℕ) (n : Machine) : Type 0 where
   go : n.device.go ≡ (object_id Crtc crtc, None) ∷ m.device.go
   needs : SameNeeds m n
 
-blank_without : (s : Script) (m : Machine) (crtc : ℕ) → go_at m.device (object_id Crtc crtc) ≡ None → IsBlank m crtc (next s m (step.Vblank Crtc crtc))
+blank_without : (s : Script) (m : Machine) (crtc : ℕ) → go_at m.device (object_id Crtc crtc) ≡ None
+    → IsBlank m crtc (next s m (step.Vblank Crtc crtc))
 unfolding next
-blank_without s m crtc none = rw none (record { same = record { contexts = refl; world = refl; commits = refl; journal = refl; replies = refl; stalled = refl }; latches = refl; signalled = refl; go = refl; needs = record { world = refl; commits = refl; cleaned = refl; live = refl } })
+blank_without s m crtc none = rw none (record {
+  same =
+      record { contexts = refl; world = refl; commits = refl; journal = refl; replies = refl; stalled = refl };
+  latches = refl;
+  signalled =
+      refl;
+  go = refl;
+  needs = record { world = refl; commits = refl; cleaned = refl; live = refl };
+})
 
-going_none : (d n : DeviceState) (goes : List (Option ℕ)) (crtc : ℕ) → n.go ≡ (object_id Crtc crtc, None) ∷ d.go → go_at d (object_id Crtc crtc) ≡ None → AreGoing d goes → AreGoing n goes
+going_none : (d n : DeviceState) (goes : List (Option ℕ)) (crtc : ℕ) → n.go ≡ (object_id Crtc crtc, None) ∷ d.go
+    → go_at d (object_id Crtc crtc) ≡ None → AreGoing d goes → AreGoing n goes
 going_none d n goes crtc is none stand = record {
   size = stand.size;
   go = λ index few.
       elim (eqb_tells crtc index) [
         | inl same ↦
             subst (λ i. i < 4 → go_at n (object_id Crtc i) ≡ slice_index_or goes i None) same.1
-            (λ low. ap (λ rows. read None rows (object_id Crtc crtc)) is ∙ read_same None d.go (object_id Crtc crtc) None ∙ sym none ∙ stand.go crtc low) few
+            (λ low. ap (λ rows. read None rows (object_id Crtc crtc)) is ∙ read_same None d.go (object_id Crtc crtc) None ∙ sym none ∙
+            stand.go crtc low) few
         | inr different ↦
             ap (λ rows. read None rows (object_id Crtc index)) is
             ∙ read_other None d.go (object_id Crtc crtc) (object_id Crtc index) None (λ e. different.1 (omega (arith, e)))
@@ -136,8 +158,10 @@ going_none d n goes crtc is none stand = record {
       ];
 }
 
-pub blanks_without : (r v : Run) (st : Stores) (crtc : ℕ) (shown : Logged Latch) (new : RegisterFile) (before steps : List Step) → Stands r st → r ≡ v → MayBlank v crtc → before ≡ r.steps → steps ≡ before ++ step.Vblank Crtc crtc ∷ []
-    → shown.items ≡ st.latches.items → Blanks st.registers new crtc → slice_index_or st.goes crtc None ≡ None → Stands (record { script = r.script; steps = steps }) (record st { latches = shown; registers = new })
+pub blanks_without : (r v : Run) (st : Stores) (crtc : ℕ) (shown : Logged Latch) (new : RegisterFile) (before steps : List Step)
+    → Stands r st → r ≡ v → MayBlank v crtc → before ≡ r.steps → steps ≡ before ++ step.Vblank Crtc crtc ∷ []
+    → shown.items ≡ st.latches.items → Blanks st.registers new crtc → slice_index_or st.goes crtc None ≡ None
+    → Stands (record { script = r.script; steps = steps }) (record st { latches = shown; registers = new })
 blanks_without r v st crtc shown new before steps stands same asked was more is blanks off =
     let s = r.script in
     let m = machine r in
@@ -153,7 +177,11 @@ blanks_without r v st crtc shown new before steps stands same asked was more is 
       recorded = is ∙ S.recorded.latched ∙ ap reverse (sym B.latches);
       signalled = L.fences st.fences S.fences;
       fenced = rw B.signalled S.fenced;
-      told = record { size = S.queues.size; queue = λ client low high. L.queues (queue_of st.queues client) client (S.queues.queue client low high) };
+      told = record {
+        size = S.queues.size;
+        queue = λ client low high. L.queues (queue_of st.queues client) client
+            (S.queues.queue client low high);
+      };
       tracked = tracker_follows.vblank_follows s m crtc st.tracker none S.tracker;
       written = registers_follow.vblank_follows s m crtc st.registers new S.registers blanks;
       going = going_none m.device (next s m (step.Vblank Crtc crtc)).device st.goes crtc B.go none S.going;
@@ -171,7 +199,8 @@ pub record BlanksFor (r : Run) (k crtc : ℕ) : Type 0 where
   pub within : k < length (machine r).device.commits
   pub kept : has_number (machine r).device.marks.cleaned k ≡ false
 
-pub blanks_for : (r v : Run) (st : Stores) (k crtc : ℕ) → Stands r st → r ≡ v → MayBlank v crtc → slice_index_or st.goes crtc None ≡ Some k → BlanksFor r k crtc
+pub blanks_for : (r v : Run) (st : Stores) (k crtc : ℕ) → Stands r st → r ≡ v → MayBlank v crtc → slice_index_or st.goes crtc None ≡ Some k
+    → BlanksFor r k crtc
 blanks_for r v st k crtc stands same asked is =
     let c = object_id Crtc crtc in
     let low = blanks_low r v st crtc stands same asked in
@@ -179,7 +208,8 @@ blanks_for r v st k crtc stands same asked is =
     let go = stands.stores.going.go crtc low ∙ is in
     let pending = T.marks.go_is k c go in
     let f = T.marks.flushed k c pending.flushed in
-    let written = f.written c (crtc_registered r.script.topology c f.is_crtc) (names-touches r.script.topology (machine r).device.commits k c T.few f.is_crtc f.names) in
+    let written = f.written c (crtc_registered r.script.topology c f.is_crtc)
+    (names-touches r.script.topology (machine r).device.commits k c T.few f.is_crtc f.names) in
     record {
       low = low;
       go = go;
@@ -195,7 +225,8 @@ blank_tail : (r : Run) (st : Stores) (k crtc : ℕ) → Stands r st → BlanksFo
 blank_tail r st k crtc stands B = found_tail r.script.topology (machine r).device.commits (machine r).device.marks
     (machine r).records.latches st.tracker k B.within B.kept stands.stores.tracker
 
-pub blank_latches : (r v : Run) (st : Stores) (k crtc count : ℕ) (picture : Picture) → Stands r st → r ≡ v → MayBlank v crtc → slice_index_or st.goes crtc None ≡ Some k
+pub blank_latches : (r v : Run) (st : Stores) (k crtc count : ℕ) (picture : Picture) → Stands r st → r ≡ v → MayBlank v crtc
+    → slice_index_or st.goes crtc None ≡ Some k
     → IsLatching st.tracker st.queues (record { crtc = crtc; commit = k; count = count; picture = picture })
 blank_latches r v st k crtc count picture stands same asked is =
     let s = r.script in
@@ -213,17 +244,20 @@ record IsBlankFor (s : Script) (m : Machine) (k crtc : ℕ) (n : Machine) : Type
   signalled : n.device.signalled ≡ more_signalled m.device.signalled (out_fence_of s.topology m.device.commits k (object_id Crtc crtc))
   go : n.device.go ≡ (object_id Crtc crtc, None) ∷ m.device.go
 
-blank_with : (s : Script) (m : Machine) (k crtc : ℕ) → go_at m.device (object_id Crtc crtc) ≡ Some k → IsBlankFor s m k crtc (next s m (step.Vblank Crtc crtc))
+blank_with : (s : Script) (m : Machine) (k crtc : ℕ) → go_at m.device (object_id Crtc crtc) ≡ Some k
+    → IsBlankFor s m k crtc (next s m (step.Vblank Crtc crtc))
 unfolding next
 blank_with s m k crtc has =
     let c = object_id Crtc crtc in
     rw has (record {
-      same = same_latches s.topology m (counts_vblank m c) k c (count_at m.device c + 1) (record { contexts = refl; world = refl; commits = refl; journal = refl; replies = refl; stalled = refl });
+      same = same_latches s.topology m (counts_vblank m c) k c (count_at m.device c + 1)
+          (record { contexts = refl; world = refl; commits = refl; journal = refl; replies = refl; stalled = refl });
       signalled = latches_signalled s.topology (counts_vblank m c) k c (count_at m.device c + 1);
       go = latches_go s.topology (counts_vblank m c) k c (count_at m.device c + 1);
     })
 
-count_blanked : (t : Topology) (d : DeviceState) (c : ℕ) (b : Bool) → count_at (if b then latched_device t (counted d c) c else counted d c) c ≡ count_at d c + 1
+count_blanked : (t : Topology) (d : DeviceState) (c : ℕ) (b : Bool)
+    → count_at (if b then latched_device t (counted d c) c else counted d c) c ≡ count_at d c + 1
 count_blanked t d c true = read_same 0 d.counts c (count_at d c + 1)
 count_blanked t d c false = read_same 0 d.counts c (count_at d c + 1)
 
@@ -269,10 +303,13 @@ blanks_with r v st k crtc count picture new tracker fences queues shown steps st
     let l : Latch = record { crtc = crtc; commit = k; count = count; picture = picture } in
     let low = B.low in
     let index_is : crtc ≡ index_of c = sym (index_of-object Crtc crtc (omega (arith, low))) in
-    let count_is : count ≡ count_at d c + 1 = has.counted t (blanked t d c) (has.blanks t d S.registers) ∙ count_blanked t d c (is_some (go_at d c)) in
-    let picture_is : picture ≡ latched_picture t d c = picture_from (go_at d c) (latched_picture t d c) picture (has.tells t d S.registers) in
+    let count_is : count ≡ count_at d c + 1 = has.counted t (blanked t d c) (has.blanks t d S.registers) ∙ count_blanked t d c
+    (is_some (go_at d c)) in
+    let picture_is : picture ≡ latched_picture t d c = picture_from (go_at d c) (latched_picture t d c) picture (has.tells t d S.registers)
+    in
     let one : n.records.latches ≡ l ∷ m.records.latches =
-    registers_follow.vblank_recorded s m k crtc B.go ∙ (λ i. record { crtc = sym index_is i; commit = k; count = sym count_is i; picture = sym picture_is i } ∷ m.records.latches) in
+    registers_follow.vblank_recorded s m k crtc B.go ∙
+    (λ i. record { crtc = sym index_is i; commit = k; count = sym count_is i; picture = sym picture_is i } ∷ m.records.latches) in
     goes_latching r st (record st {
       latches = shown;
       fences = fences;
@@ -320,5 +357,6 @@ few_blanked r v st k crtc stands same asked is =
     }
 
 -- a CRTC that blanks is one of the device
-pub blanks_crtc : (r v : Run) (st : Stores) (k crtc : ℕ) → Stands r st → r ≡ v → MayBlank v crtc → slice_index_or st.goes crtc None ≡ Some k → IsIn (object_id Crtc crtc) (ids_of r.script.topology Crtc)
+pub blanks_crtc : (r v : Run) (st : Stores) (k crtc : ℕ) → Stands r st → r ≡ v → MayBlank v crtc → slice_index_or st.goes crtc None ≡ Some k
+    → IsIn (object_id Crtc crtc) (ids_of r.script.topology Crtc)
 blanks_crtc r v st k crtc stands same asked is = (blanks_for r v st k crtc stands same asked is).is_crtc

@@ -1,5 +1,6 @@
 -- A commit flushes a CRTC that it names.
-use Rattle.std.proofs.Common.{◌≡◌, ℕ, ◌<◌, Bool, true, false, List, [], ◌∷◌, ◌++◌, length, reverse, Option, Some, None, refl, sym, ap, ◌∙◌, subst, arith}
+use Rattle.std.proofs.Common.{◌≡◌, ℕ, ◌<◌, Bool, true, false, List, [], ◌∷◌, ◌++◌, length, reverse, Option, Some, None, refl, sym, ap, ◌∙◌}
+use Rattle.std.proofs.Common.{subst, arith}
 use Rattle.std.specs.Prelude.{if◌then◌else◌, not, slice_set, ◌||◌}
 use Rattle.std.proofs.lemmas.Bool.{and_parts, false_from_ne_true, false≢true, ltb-true}
 use Rattle.kms_model.specs.declared.objects.Kind.TheVariants.{Crtc}
@@ -54,7 +55,8 @@ use Rattle.kms_core.proofs.stores.Histories.{goes_same}
 use Rattle.kms_laws.proofs.SmallNumbers.{numbers_fit}
 use Rattle.kms_model.specs.Machine.Framebuffers.{picture_names}
 use Rattle.kms_model.specs.Machine.Registers.{decoded_picture}
-use Rattle.kms_core.proofs.tails.Latched.{FoundTail, IsFlushed, SameParts, found_tail, going_set, is_latching, latched_shown, latches_go, latches_signalled, more_signalled, same_either, same_latches, shadow_flushed, stands_shown}
+use Rattle.kms_core.proofs.tails.Latched.{FoundTail, IsFlushed, SameParts, found_tail, going_set, is_latching, latched_shown, latches_go}
+use Rattle.kms_core.proofs.tails.Latched.{latches_signalled, more_signalled, same_either, same_latches, shadow_flushed, stands_shown}
 
 -- What is asked
 
@@ -83,7 +85,9 @@ flushes_next r v st k crtc stands same asked =
     let H = (facts r st stands).holds in
     let T = H.tail in
     let written : has_pair d.marks.written k c ≡ true =
-    implied (commit_touches t d.commits k c) (has_pair d.marks.written k c) (list_all-at (λ object. not (commit_touches t d.commits k object) || has_pair d.marks.written k object) (registered t) c parts.0 (crtc_registered t c f.is_crtc))
+    implied (commit_touches t d.commits k c) (has_pair d.marks.written k c)
+    (list_all-at (λ object. not (commit_touches t d.commits k object) || has_pair d.marks.written k object) (registered t) c parts.0
+    (crtc_registered t c f.is_crtc))
     (names-touches t d.commits k c few f.is_crtc f.names) in
     record {
       is_legal = is;
@@ -92,7 +96,8 @@ flushes_next r v st k crtc stands same asked =
       flush = f;
       flushed = record { is_crtc = f.is_crtc; names = f.names; written = written; unlatched = fresh-unlatched r.script m H k c f };
       within = T.marks.claimed k (T.marks.written k c written).0;
-      kept = false_from_ne_true (has_number d.marks.cleaned k) (λ yes. both_bools _ (T.marks.latched k c (T.marks.cleaned k c yes f.is_crtc f.names)) f.fresh);
+      kept = false_from_ne_true (has_number d.marks.cleaned k)
+          (λ yes. both_bools _ (T.marks.latched k c (T.marks.cleaned k c yes f.is_crtc f.names)) f.fresh);
     }
 
 -- The machine after a flush
@@ -100,8 +105,10 @@ flushes_next r v st k crtc stands same asked =
 flush_same : (s : Script) (m : Machine) (k crtc : ℕ) → SameParts m (next s m (step.Flush k Crtc crtc))
 unfolding next
 flush_same s m k crtc =
-    same_either (new_crtc s.topology m.device.commits k (object_id Crtc crtc)).active m _ _ (record { contexts = refl; world = refl; commits = refl; journal = refl; replies = refl; stalled = refl })
-    (same_latches s.topology m (flushed_at m k (object_id Crtc crtc)) k (object_id Crtc crtc) (count_at m.device (object_id Crtc crtc)) (record { contexts = refl; world = refl; commits = refl; journal = refl; replies = refl; stalled = refl }))
+    same_either (new_crtc s.topology m.device.commits k (object_id Crtc crtc)).active m _ _
+    (record { contexts = refl; world = refl; commits = refl; journal = refl; replies = refl; stalled = refl })
+    (same_latches s.topology m (flushed_at m k (object_id Crtc crtc)) k (object_id Crtc crtc) (count_at m.device (object_id Crtc crtc))
+    (record { contexts = refl; world = refl; commits = refl; journal = refl; replies = refl; stalled = refl }))
 
 record IsOnFlush (s : Script) (m : Machine) (k crtc : ℕ) (n : Machine) : Type 0 where
   latches : n.records.latches ≡ m.records.latches
@@ -109,19 +116,28 @@ record IsOnFlush (s : Script) (m : Machine) (k crtc : ℕ) (n : Machine) : Type 
   go : n.device.go ≡ (object_id Crtc crtc, Some k) ∷ m.device.go
   needs : SameNeeds m n
 
-flush_on : (s : Script) (m : Machine) (k crtc : ℕ) → (new_crtc s.topology m.device.commits k (object_id Crtc crtc)).active ≡ true → IsOnFlush s m k crtc (next s m (step.Flush k Crtc crtc))
+flush_on : (s : Script) (m : Machine) (k crtc : ℕ) → (new_crtc s.topology m.device.commits k (object_id Crtc crtc)).active ≡ true
+    → IsOnFlush s m k crtc (next s m (step.Flush k Crtc crtc))
 unfolding next
-flush_on s m k crtc on = rw on (record { latches = refl; signalled = refl; go = refl; needs = record { world = refl; commits = refl; cleaned = refl; live = refl } })
+flush_on s m k crtc on = rw on (record {
+  latches = refl;
+  signalled = refl;
+  go = refl;
+  needs =
+      record { world = refl; commits = refl; cleaned = refl; live = refl };
+})
 
 record IsOffFlush (s : Script) (m : Machine) (k crtc : ℕ) (n : Machine) : Type 0 where
   signalled : n.device.signalled ≡ more_signalled m.device.signalled (out_fence_of s.topology m.device.commits k (object_id Crtc crtc))
   go : n.device.go ≡ m.device.go
 
-flush_off : (s : Script) (m : Machine) (k crtc : ℕ) → (new_crtc s.topology m.device.commits k (object_id Crtc crtc)).active ≡ false → IsOffFlush s m k crtc (next s m (step.Flush k Crtc crtc))
+flush_off : (s : Script) (m : Machine) (k crtc : ℕ) → (new_crtc s.topology m.device.commits k (object_id Crtc crtc)).active ≡ false
+    → IsOffFlush s m k crtc (next s m (step.Flush k Crtc crtc))
 unfolding next
 flush_off s m k crtc off =
     rw off (record {
-      signalled = latches_signalled s.topology (flushed_at m k (object_id Crtc crtc)) k (object_id Crtc crtc) (count_at m.device (object_id Crtc crtc));
+      signalled = latches_signalled s.topology (flushed_at m k (object_id Crtc crtc)) k (object_id Crtc crtc)
+          (count_at m.device (object_id Crtc crtc));
       go = latches_go s.topology (flushed_at m k (object_id Crtc crtc)) k (object_id Crtc crtc) (count_at m.device (object_id Crtc crtc));
     })
 
@@ -139,18 +155,24 @@ abbrev pub TellsPicture : RegisterFile → ℕ → Option Picture → Type 0
 TellsPicture f crtc o = (t : Topology) (d : DeviceState) → StandsForDevice t d f → o ≡ flushed_picture d (object_id Crtc crtc)
 
 -- a CRTC that is on in the shadow has no picture at its flush, and one that is off there has one
-pub tells_none : (f : RegisterFile) (crtc : ℕ) → ((t : Topology) (d : DeviceState) → StandsForDevice t d f → true ≡ is_on_in d.shadow (object_id Crtc crtc)) → TellsPicture f crtc None
+pub tells_none : (f : RegisterFile) (crtc : ℕ)
+    → ((t : Topology) (d : DeviceState) → StandsForDevice t d f → true ≡ is_on_in d.shadow (object_id Crtc crtc)) → TellsPicture f crtc None
 tells_none f crtc on = λ t d stands. ap (λ (b : Bool). if b then None else Some Off) (on t d stands)
 
-pub off_has_picture : (r : Run) (st : Stores) (crtc : ℕ) → Stands r st → ((t : Topology) (d : DeviceState) → StandsForDevice t d st.registers → false ≡ is_on_in d.shadow (object_id Crtc crtc)) → TellsPicture st.registers crtc None → ⊥
+pub off_has_picture : (r : Run) (st : Stores) (crtc : ℕ) → Stands r st
+    → ((t : Topology) (d : DeviceState) → StandsForDevice t d st.registers → false ≡ is_on_in d.shadow (object_id Crtc crtc))
+    → TellsPicture st.registers crtc None → ⊥
 off_has_picture r st crtc stands off none =
     let t = r.script.topology in
     let d = (machine r).device in
     let found = stands.stores.registers in
     false≢true (off t d found ∙ on_from (is_on_in d.shadow (object_id Crtc crtc)) Off (none t d found))
 
-active_is : (r : Run) (st : Stores) (k crtc : ℕ) → Stands r st → FlushesNext r k crtc → is_on_in (machine r).device.shadow (object_id Crtc crtc) ≡ (new_crtc r.script.topology (machine r).device.commits k (object_id Crtc crtc)).active
-active_is r st k crtc stands N = shadow_flushed r.script.topology (machine r).device (machine r).records.latches k (object_id Crtc crtc) (facts r st stands).holds.tail N.flushed
+active_is : (r : Run) (st : Stores) (k crtc : ℕ) → Stands r st → FlushesNext r k crtc
+    → is_on_in (machine r).device.shadow (object_id Crtc crtc)
+    ≡ (new_crtc r.script.topology (machine r).device.commits k (object_id Crtc crtc)).active
+active_is r st k crtc stands N = shadow_flushed r.script.topology (machine r).device (machine r).records.latches k (object_id Crtc crtc)
+    (facts r st stands).holds.tail N.flushed
 
 -- A CRTC that is on after the commit
 
@@ -178,7 +200,11 @@ flushes_on r v st k crtc shown new u before steps stands same asked was more is 
       recorded = is ∙ S.recorded.latched ∙ ap reverse (sym O.latches);
       signalled = L.fences st.fences S.fences;
       fenced = rw O.signalled S.fenced;
-      told = record { size = S.queues.size; queue = λ client low high. L.queues (queue_of st.queues client) client (S.queues.queue client low high) };
+      told = record {
+        size = S.queues.size;
+        queue = λ client low high. L.queues (queue_of st.queues client) client
+            (S.queues.queue client low high);
+      };
       tracked = rw after (tracker_follows.flush_follows s m k crtc N.low on st.tracker N.is_legal S.tracker);
       written = registers_follow.flush_follows s m k crtc st.registers new shadow S.registers flushes;
       going = going_set m.device (next s m (step.Flush k Crtc crtc)).device st.goes crtc (Some k) O.go N.low S.going;
@@ -219,9 +245,11 @@ flush_latches r v st k crtc count picture u stands same asked after =
     let l : Latch = record { crtc = crtc; commit = k; count = count; picture = picture } in
     is_latching s.topology m.device.commits (flushed_marks k crtc m.device.marks) m.records.latches m.events u st.queues
     (length s.clients) l (flushed_tail r st k crtc u stands N after) stands.stores.queues C.low C.high
-    (reserved_some (flushed_holds s m F.holds k (object_id Crtc crtc) N.all_written N.flush).tail k (object_id Crtc crtc) count l N.flush.is_crtc (pair_now k (object_id Crtc crtc) m.device.marks.flushed) N.flushed.unlatched refl refl refl m.events F.events)
+    (reserved_some (flushed_holds s m F.holds k (object_id Crtc crtc) N.all_written N.flush).tail k (object_id Crtc crtc) count l
+    N.flush.is_crtc (pair_now k (object_id Crtc crtc) m.device.marks.flushed) N.flushed.unlatched refl refl refl m.events F.events)
 
-count_flushed : (t : Topology) (d : DeviceState) (k c : ℕ) (b : Bool) → count_at (if b then record d { go = (c, Some k) ∷ d.go } else latched_device t d c) c ≡ count_at d c
+count_flushed : (t : Topology) (d : DeviceState) (k c : ℕ) (b : Bool)
+    → count_at (if b then record d { go = (c, Some k) ∷ d.go } else latched_device t d c) c ≡ count_at d c
 count_flushed t d k c true = refl
 count_flushed t d k c false = refl
 
@@ -260,10 +288,12 @@ flushes_off r v st k crtc count picture new u tracker fences queues shown steps 
     let l : Latch = record { crtc = crtc; commit = k; count = count; picture = picture } in
     let low = N.low in
     let index_is : crtc ≡ index_of c = sym (index_of-object Crtc crtc (omega (arith, low))) in
-    let count_is : count ≡ count_at d c = has.counted t (flushed t d k c) (has.flushes t d k S.registers) ∙ count_flushed t d k c (is_on_in d.shadow c) in
+    let count_is : count ≡ count_at d c = has.counted t (flushed t d k c) (has.flushes t d k S.registers) ∙ count_flushed t d k c
+    (is_on_in d.shadow c) in
     let picture_is : picture ≡ latched_picture t d c = has.latched t d S.registers in
     let one : n.records.latches ≡ l ∷ m.records.latches =
-    registers_follow.flush_recorded s m k crtc off ∙ (λ i. record { crtc = sym index_is i; commit = k; count = sym count_is i; picture = sym picture_is i } ∷ m.records.latches) in
+    registers_follow.flush_recorded s m k crtc off ∙
+    (λ i. record { crtc = sym index_is i; commit = k; count = sym count_is i; picture = sym picture_is i } ∷ m.records.latches) in
     goes_latching r st (record st { latches = shown; fences = fences; queues = queues; tracker = tracker; registers = new })
     (step.Flush k Crtc crtc) c ids freed made
     (latches_by s m n c l
@@ -283,7 +313,8 @@ flushes_off r v st k crtc count picture new u tracker fences queues shown steps 
     })
     (rw (has.told.tracker, has.marked_as) (tracker_follows.flush_off_follows s m k crtc st.tracker N.low off N.is_legal S.tracker))
     (registers_follow.flush_follows s m k crtc st.registers new shadow S.registers has.flushes)
-    (record { size = S.going.size; go = λ index few. ap (λ rows. read None rows (object_id Crtc index)) O.go ∙ S.going.go index few }) stands)
+    (record { size = S.going.size; go = λ index few. ap (λ rows. read None rows (object_id Crtc index)) O.go ∙ S.going.go index few })
+    stands)
 
 -- the commits after it are few
 pub few_flushed : (r v : Run) (st : Stores) (k crtc : ℕ) (u : Tracking) → Stands r st → r ≡ v → MayFlush v k crtc

@@ -1,5 +1,6 @@
 -- All stores stand after a flush or a vblank, at which a commit may latch.
-use Rattle.std.proofs.Common.{◌≡◌, ℕ, suc, ◌-◌, ◌%◌, ◌^◌, ◌<◌, ◌≤◌, Bool, true, false, List, [], ◌∷◌, ◌++◌, length, reverse, Option, Some, None, inl, inr, refl, sym, ap, ◌∙◌, subst, arith}
+use Rattle.std.proofs.Common.{◌≡◌, ℕ, suc, ◌-◌, ◌%◌, ◌^◌, ◌<◌, ◌≤◌, Bool, true, false, List, [], ◌∷◌, ◌++◌, length, reverse, Option, Some}
+use Rattle.std.proofs.Common.{None, inl, inr, refl, sym, ap, ◌∙◌, subst, arith}
 use Rattle.std.specs.Prelude.{if◌then◌else◌, slice_index_or, slice_set}
 use Rattle.std.proofs.lemmas.Bool.{false_from_ne_true}
 use Rattle.std.proofs.lemmas.Bool.Decides.{eqb_tells}
@@ -10,7 +11,8 @@ use Rattle.kms_model.specs.declared.replies.Event.{Event}
 use Rattle.kms_model.specs.declared.runs.Latch.{Latch}
 use Rattle.kms_model.specs.declared.scripts.Script.{Script}
 use Rattle.kms_model.specs.Device.Objects.{ids_of, object_id}
-use Rattle.kms_model.specs.Machine.Commits.{asks_event, commit_at, commit_names, commit_touches, has_latched, has_number, has_pair, new_crtc, out_fence_of}
+use Rattle.kms_model.specs.Machine.Commits.{asks_event, commit_at, commit_names, commit_touches, has_latched, has_number, has_pair}
+use Rattle.kms_model.specs.Machine.Commits.{new_crtc, out_fence_of}
 use Rattle.kms_model.specs.Machine.Effects.{delivers_if, event_of, latches, latches_picture, signals}
 use Rattle.kms_model.specs.Machine.Registers.{is_on_in, read}
 use Rattle.kms_model.specs.Machine.State.{Commit, DeviceState, Events, Machine, Marks, go_at, reserved_at}
@@ -50,7 +52,15 @@ pub record SameParts (old new : Machine) : Type 0 where
 
 same_signals : (m n : Machine) (fence : Option ℕ) → SameParts m n → SameParts m (signals n fence)
 same_signals m n None S = S
-same_signals m n (Some id) S = record { contexts = S.contexts; world = S.world; commits = S.commits; journal = S.journal; replies = S.replies; stalled = S.stalled }
+same_signals m n (Some id) S = record {
+  contexts = S.contexts;
+  world = S.world;
+  commits = S.commits;
+  journal = S.journal;
+  replies =
+      S.replies;
+  stalled = S.stalled;
+}
 
 pub same_either : (b : Bool) (m x y : Machine) → SameParts m x → SameParts m y → SameParts m (if b then x else y)
 same_either true m x y first second = first
@@ -59,10 +69,19 @@ same_either false m x y first second = second
 pub same_latches : (t : Topology) (m n : Machine) (k crtc count : ℕ) → SameParts m n → SameParts m (latches t n k crtc count)
 unfolding latches
 same_latches t m n k crtc count S =
-    let shown : SameParts m (latches_picture t n k crtc count) = record { contexts = S.contexts; world = S.world; commits = S.commits; journal = S.journal; replies = S.replies; stalled = S.stalled } in
+    let shown : SameParts m (latches_picture t n k crtc count) =
+    record {
+      contexts = S.contexts;
+      world = S.world;
+      commits = S.commits;
+      journal = S.journal;
+      replies = S.replies;
+      stalled = S.stalled;
+    } in
     same_signals m (delivers_if t (latches_picture t n k crtc count) k crtc count) (out_fence_of t n.device.commits k crtc)
     (same_either (asks_event t n.device.commits k) m _ (latches_picture t n k crtc count)
-    (record { contexts = S.contexts; world = S.world; commits = S.commits; journal = S.journal; replies = S.replies; stalled = S.stalled }) shown)
+    (record { contexts = S.contexts; world = S.world; commits = S.commits; journal = S.journal; replies = S.replies; stalled = S.stalled })
+    shown)
 
 -- the fences that are signalled, and GO, after a latch
 
@@ -82,17 +101,21 @@ same_device : (b : Bool) (x y : Machine) (d : DeviceState) → x.device ≡ d �
 same_device true x y d first second = first
 same_device false x y d first second = second
 
-pub latches_signalled : (t : Topology) (m : Machine) (k crtc count : ℕ) → (latches t m k crtc count).device.signalled ≡ more_signalled m.device.signalled (out_fence_of t m.device.commits k crtc)
+pub latches_signalled : (t : Topology) (m : Machine) (k crtc count : ℕ) → (latches t m k crtc count).device.signalled
+    ≡ more_signalled m.device.signalled (out_fence_of t m.device.commits k crtc)
 unfolding latches
 latches_signalled t m k crtc count =
     signals_more (delivers_if t (latches_picture t m k crtc count) k crtc count) (out_fence_of t m.device.commits k crtc)
-    ∙ ap (λ (d : DeviceState). more_signalled d.signalled (out_fence_of t m.device.commits k crtc)) (same_device (asks_event t m.device.commits k) _ (latches_picture t m k crtc count) (latches_picture t m k crtc count).device refl refl)
+    ∙ ap (λ (d : DeviceState). more_signalled d.signalled (out_fence_of t m.device.commits k crtc))
+    (same_device (asks_event t m.device.commits k) _ (latches_picture t m k crtc count) (latches_picture t m k crtc count).device refl
+    refl)
 
 pub latches_go : (t : Topology) (m : Machine) (k crtc count : ℕ) → (latches t m k crtc count).device.go ≡ m.device.go
 unfolding latches
 latches_go t m k crtc count =
     signals_go (delivers_if t (latches_picture t m k crtc count) k crtc count) (out_fence_of t m.device.commits k crtc)
-    ∙ ap (λ (d : DeviceState). d.go) (same_device (asks_event t m.device.commits k) _ (latches_picture t m k crtc count) (latches_picture t m k crtc count).device refl refl)
+    ∙ ap (λ (d : DeviceState). d.go) (same_device (asks_event t m.device.commits k) _ (latches_picture t m k crtc count)
+    (latches_picture t m k crtc count).device refl refl)
 
 -- All stores
 
@@ -123,7 +146,12 @@ stands_shown s m n st latched fences queues tracker registers goes shown more st
     let S = shown.same in
     record {
       clients = rw S.contexts stands.clients;
-      recorded = record { accepted = rw S.journal stands.recorded.accepted; answered = rw S.replies stands.recorded.answered; latched = shown.recorded };
+      recorded = record {
+        accepted = rw S.journal stands.recorded.accepted;
+        answered = rw S.replies stands.recorded.answered;
+        latched =
+            shown.recorded;
+      };
       world = rw S.world stands.world;
       fences = shown.signalled;
       fenced = rw S.world shown.fenced;
@@ -137,7 +165,8 @@ stands_shown s m n st latched fences queues tracker registers goes shown more st
 
 -- The fences
 
-pub latched_fenced : (m : Machine) (fence : Option ℕ) (fences : FenceSet) → ((id : ℕ) → fence ≡ Some id → is_made fences id ≡ true) → AreMadeFences m.device.world m.device.signalled fences
+pub latched_fenced : (m : Machine) (fence : Option ℕ) (fences : FenceSet) → ((id : ℕ) → fence ≡ Some id → is_made fences id ≡ true)
+    → AreMadeFences m.device.world m.device.signalled fences
     → AreMadeFences m.device.world (more_signalled m.device.signalled fence) (with_signal fences fence)
 latched_fenced m None fences made fenced = fenced
 latched_fenced m (Some id) fences made fenced = signalled_fenced m.device.world m.device.signalled fences id (made id refl) fenced
@@ -148,19 +177,24 @@ latched_more fences (Some other) id made = still_made fences other id ∙ made
 
 -- The queues
 
-own_told : (b : Bool) (queues : List Queue) (client : ℕ) (event : Event) → 1 ≤ client → client ≤ length queues → queue_of (told_if b client event queues) client ≡ (if b then delivers (queue_of queues client) event else queue_of queues client)
-own_told true queues client event low high = get_or-set_same queues (client - 1) (delivers (queue_of queues client) event) empty_queue (omega (arith, low, high))
+own_told : (b : Bool) (queues : List Queue) (client : ℕ) (event : Event) → 1 ≤ client → client ≤ length queues
+    → queue_of (told_if b client event queues) client ≡ (if b then delivers (queue_of queues client) event else queue_of queues client)
+own_told true queues client event low high = get_or-set_same queues (client - 1) (delivers (queue_of queues client) event) empty_queue
+    (omega (arith, low, high))
 own_told false queues client event low high = refl
 
-other_told : (b : Bool) (queues : List Queue) (client other : ℕ) (event : Event) → 1 ≤ client → 1 ≤ other → (client ≡ other → ⊥) → queue_of (told_if b client event queues) other ≡ queue_of queues other
-other_told true queues client other event low from apart = get_or-set_other queues (client - 1) (other - 1) (delivers (queue_of queues client) event) empty_queue (λ e. apart (omega (arith, e, low, from)))
+other_told : (b : Bool) (queues : List Queue) (client other : ℕ) (event : Event) → 1 ≤ client → 1 ≤ other → (client ≡ other → ⊥)
+    → queue_of (told_if b client event queues) other ≡ queue_of queues other
+other_told true queues client other event low from apart = get_or-set_other queues (client - 1) (other - 1)
+    (delivers (queue_of queues client) event) empty_queue (λ e. apart (omega (arith, e, low, from)))
 other_told false queues client other event low from apart = refl
 
 size_told : (b : Bool) (queues : List Queue) (client : ℕ) (event : Event) → length (told_if b client event queues) ≡ length queues
 size_told true queues client event = length-set queues (client - 1) (delivers (queue_of queues client) event)
 size_told false queues client event = refl
 
-pub queues_told : (t : Topology) (m n : Machine) (clients k crtc count : ℕ) (queues : List Queue) → LatchesSignals t m n k crtc count → 1 ≤ client_of t m k → client_of t m k ≤ clients → AreQueues clients m.events queues
+pub queues_told : (t : Topology) (m n : Machine) (clients k crtc count : ℕ) (queues : List Queue) → LatchesSignals t m n k crtc count → 1
+    ≤ client_of t m k → client_of t m k ≤ clients → AreQueues clients m.events queues
     → AreQueues clients n.events (told_if (asks_event t m.device.commits k) (client_of t m k) (event_of t m k crtc count) queues)
 queues_told t m n clients k crtc count queues L low high stand =
     let owner = client_of t m k in
@@ -173,9 +207,11 @@ queues_told t m n clients k crtc count queues L low high stand =
           elim (eqb_tells owner other) [
             | inl same ↦
                 subst (λ c. IsQueueOf (queue_of (told_if b owner event queues) c) n.events c) same.1
-                (subst (λ q. IsQueueOf q n.events owner) (sym (own_told b queues owner event low (omega (arith, size, high)))) (L.queue (queue_of queues owner) (stand.queue owner low high)))
+                (subst (λ q. IsQueueOf q n.events owner) (sym (own_told b queues owner event low (omega (arith, size, high))))
+                (L.queue (queue_of queues owner) (stand.queue owner low high)))
             | inr different ↦
-                subst (λ q. IsQueueOf q n.events other) (sym (other_told b queues owner other event low from different.1)) (L.others (queue_of queues other) other different.0 (stand.queue other from to))
+                subst (λ q. IsQueueOf q n.events other) (sym (other_told b queues owner other event low from different.1))
+                (L.others (queue_of queues other) other different.0 (stand.queue other from to))
           ];
     }
 
@@ -188,7 +224,8 @@ delivered_one x l queues q new crtc wants found id delivered = rw (wants, delive
 
 -- GO
 
-pub going_set : (d n : DeviceState) (goes : List (Option ℕ)) (crtc : ℕ) (o : Option ℕ) → n.go ≡ (object_id Crtc crtc, o) ∷ d.go → crtc < 4 → AreGoing d goes → AreGoing n (slice_set goes crtc o)
+pub going_set : (d n : DeviceState) (goes : List (Option ℕ)) (crtc : ℕ) (o : Option ℕ) → n.go ≡ (object_id Crtc crtc, o) ∷ d.go → crtc < 4
+    → AreGoing d goes → AreGoing n (slice_set goes crtc o)
 going_set d n goes crtc o is low stand =
     let size = stand.size in
     record {
@@ -197,7 +234,8 @@ going_set d n goes crtc o is low stand =
           elim (eqb_tells crtc index) [
             | inl same ↦
                 subst (λ i. go_at n (object_id Crtc i) ≡ slice_index_or (slice_set goes crtc o) i None) same.1
-                (ap (λ rows. read None rows (object_id Crtc crtc)) is ∙ read_same None d.go (object_id Crtc crtc) o ∙ sym (get_or-set_same goes crtc o None (omega (arith, size, low))))
+                (ap (λ rows. read None rows (object_id Crtc crtc)) is ∙ read_same None d.go (object_id Crtc crtc) o ∙ sym
+                (get_or-set_same goes crtc o None (omega (arith, size, low))))
             | inr different ↦
                 ap (λ rows. read None rows (object_id Crtc index)) is
                 ∙ read_other None d.go (object_id Crtc crtc) (object_id Crtc index) o (λ e. different.1 (omega (arith, e)))
@@ -256,7 +294,8 @@ pub record HasLatched (s : Script) (m n : Machine) (st : Stores) (count : ℕ) (
   pub found : FoundTail s.topology m.device.commits marks m.records.latches u l.commit
   pub signals : LatchesSignals s.topology m n l.commit (object_id Crtc l.crtc) count
   pub same : SameParts m n
-  pub signalled : n.device.signalled ≡ more_signalled m.device.signalled (out_fence_of s.topology m.device.commits l.commit (object_id Crtc l.crtc))
+  pub signalled : n.device.signalled ≡ more_signalled m.device.signalled
+      (out_fence_of s.topology m.device.commits l.commit (object_id Crtc l.crtc))
   pub counted : l.count ≡ count
   pub recorded : n.records.latches ≡ l ∷ m.records.latches
   pub told : LatchIsTold u tracker st.fences fences st.queues queues l
@@ -291,10 +330,14 @@ latched_shown r n st count marks u tracker fences queues shown l registers goes 
     stands_shown s m n st shown fences queues tracker registers goes
     (record {
       same = H.same;
-      recorded = H.latched ∙ ap (λ ls. ls ++ l ∷ []) stands.recorded.latched ∙ sym (reverse_more l m.records.latches) ∙ ap reverse (sym H.recorded);
+      recorded = H.latched ∙ ap (λ ls. ls ++ l ∷ []) stands.recorded.latched ∙ sym (reverse_more l m.records.latches) ∙ ap reverse
+          (sym H.recorded);
       signalled = subst (λ f. AreFencesOf f n.device.signalled) (sym set) (H.signals.fences st.fences stands.fences);
-      fenced = subst (λ f. AreMadeFences m.device.world n.device.signalled f) (sym set) (subst (λ ids. AreMadeFences m.device.world ids (with_signal st.fences fence)) (sym H.signalled) (latched_fenced m fence st.fences made stands.fenced));
-      told = subst (λ qs. AreQueues (length s.clients) n.events qs) (sym told) (queues_told t m n (length s.clients) k c count st.queues H.signals C.low C.high stands.queues);
+      fenced = subst (λ f. AreMadeFences m.device.world n.device.signalled f) (sym set)
+          (subst (λ ids. AreMadeFences m.device.world ids (with_signal st.fences fence)) (sym H.signalled)
+          (latched_fenced m fence st.fences made stands.fenced));
+      told = subst (λ qs. AreQueues (length s.clients) n.events qs) (sym told)
+          (queues_told t m n (length s.clients) k c count st.queues H.signals C.low C.high stands.queues);
       tracked = tracked;
       written = written;
       going = going;
@@ -309,7 +352,8 @@ pub record IsFlushed (t : Topology) (d : DeviceState) (ls : List Latch) (k c : �
   pub written : has_pair d.marks.written k c ≡ true
   pub unlatched : has_latched ls k c ≡ false
 
-pub shadow_flushed : (t : Topology) (d : DeviceState) (ls : List Latch) (k c : ℕ) → Tail t d.commits d.marks d.shadow d.go ls → IsFlushed t d ls k c → is_on_in d.shadow c ≡ (new_crtc t d.commits k c).active
+pub shadow_flushed : (t : Topology) (d : DeviceState) (ls : List Latch) (k c : ℕ) → Tail t d.commits d.marks d.shadow d.go ls
+    → IsFlushed t d ls k c → is_on_in d.shadow c ≡ (new_crtc t d.commits k c).active
 unfolding crtc_after
 shadow_flushed t d ls k c T f =
     let e = T.shadow.crtc c f.is_crtc in
@@ -321,5 +365,6 @@ shadow_flushed t d ls k c T f =
     (λ j l m. false_from_ne_true _ (λ named. (
     let touches : commit_touches t d.commits j c ≡ true = names-touches t d.commits j c T.few f.is_crtc named in
     both_bools _
-    ((T.order.settled j k c (T.marks.written j c (e.below j m touches)).0 (omega (arith, l)) (crtc_lockable t c f.is_crtc) touches touched).flipped c f.is_crtc (concerns_self t d.commits k c T.few f.is_crtc))
+    ((T.order.settled j k c (T.marks.written j c (e.below j m touches)).0 (omega (arith, l)) (crtc_lockable t c f.is_crtc) touches
+    touched).flipped c f.is_crtc (concerns_self t d.commits k c T.few f.is_crtc))
     f.unlatched))))

@@ -82,7 +82,9 @@ unfolding legal may
 cleanup_legal r k asked over =
     let d = (machine r).device in
     let parts = and_parts (is_hw_done d k) _ over in
-    and_from (not (machine r).stalled) _ (ap not asked.going) (and_from (is_hw_done d k) _ parts.0 (and_from (is_all_latched r.script.topology d (machine r).records.latches k) (not (is_cleaned d k)) parts.1 (ap not asked.kept)))
+    and_from (not (machine r).stalled) _ (ap not asked.going)
+    (and_from (is_hw_done d k) _ parts.0 (and_from (is_all_latched r.script.topology d (machine r).records.latches k)
+    (not (is_cleaned d k)) parts.1 (ap not asked.kept)))
 
 -- what the call leaves of the tracker
 pub record HasForgotten (k : ℕ) (old new : Tracking) : Type 0 where
@@ -132,7 +134,11 @@ pub owns_cleanup : (r v : Run) (st : Stores) (k : ℕ) → Stands r st → r ≡
     → over ≡ true → OwnsCleanup r k
 owns_cleanup r v st k stands same asked over tells told =
     let is = ap (λ (w : Run). is_commit_over w k) same ∙ sym (over_told r v st k stands same asked over tells) ∙ told in
-    record { over = is; own = own_step r st (step.Cleanup k) k stands refl refl (cleanup_legal r k (subst (λ (w : Run). MayCleanUp w k) (sym same) asked) is) }
+    record {
+      over = is;
+      own = own_step r st (step.Cleanup k) k stands refl refl
+          (cleanup_legal r k (subst (λ (w : Run). MayCleanUp w k) (sym same) asked) is);
+    }
 
 -- What is freed
 
@@ -151,8 +157,10 @@ tail_keeps_all r v st k x found ids stands same asked some all is =
     let kept = kept_as r st k (Some x) stands (claimed_within r v st k stands same asked) some in
     rw is (all r.script.topology (machine r).device (machine r).records.latches k stands.formed.device kept.1)
 
-pub cleanup_places : (r v : Run) (st : Stores) (k : ℕ) (ids : List ℕ) → Stands r st → r ≡ v → MayCleanUp v k → AreAllOf ids (λ id. commit_keeps r.script.topology (machine r).device id k) → framebuffers_in st.made.things ids ≤ st.freed.places
-cleanup_places r v st k ids stands same asked all = kept_places r st k ids stands (claimed_within r v st k stands same asked) (subst (λ (x : Run). MayCleanUp x k) (sym same) asked).kept all
+pub cleanup_places : (r v : Run) (st : Stores) (k : ℕ) (ids : List ℕ) → Stands r st → r ≡ v → MayCleanUp v k
+    → AreAllOf ids (λ id. commit_keeps r.script.topology (machine r).device id k) → framebuffers_in st.made.things ids ≤ st.freed.places
+cleanup_places r v st k ids stands same asked all = kept_places r st k ids stands (claimed_within r v st k stands same asked)
+    (subst (λ (x : Run). MayCleanUp x k) (sym same) asked).kept all
 
 pub cleanup_held : (r v : Run) (st : Stores) (k : ℕ) (ids : List ℕ) → Stands r st → r ≡ v → MayCleanUp v k
     → AreAllOf ids (λ id. commit_keeps r.script.topology (machine r).device id k) → AreHeld st.made.things st.made.fbs ids

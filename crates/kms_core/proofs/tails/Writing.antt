@@ -1,5 +1,6 @@
 -- A commit writes the registers of an object that it touches.
-use Rattle.std.proofs.Common.{◌≡◌, ℕ, ◌+◌, ◌≤◌, ◌<◌, true, List, [], ◌∷◌, ◌++◌, length, get_or, Option, Some, None, ⊎_elim, refl, sym, ap, ◌∙◌, subst, arith}
+use Rattle.std.proofs.Common.{◌≡◌, ℕ, ◌+◌, ◌≤◌, ◌<◌, true, List, [], ◌∷◌, ◌++◌, length, get_or, Option, Some, None, ⊎_elim, refl, sym, ap}
+use Rattle.std.proofs.Common.{◌∙◌, subst, arith}
 use Rattle.std.specs.Prelude.{IfSome, is_some, nat_le, nat_lt, not}
 use Rattle.std.proofs.lemmas.Bool.{and_from, and_parts, false≢true, le-leb, lt-ltb, ltb-true, or_left, or_right}
 use Rattle.kms_model.specs.declared.objects.Kind.{Kind}
@@ -14,7 +15,8 @@ use Rattle.kms_model.specs.declared.states.PlaneState.{PlaneState}
 use Rattle.kms_model.specs.Device.Objects.{count_of, exists, ids_of, index_of, is_id_of, kind_of, object_id}
 use Rattle.kms_model.specs.Device.Sound.{IsPlaneInRange}
 use Rattle.kms_model.specs.Device.States.{connector_on}
-use Rattle.kms_model.specs.Machine.Commits.{commit_at, has_number, is_claimed, new_connector, new_crtc, new_plane, old_plane, old_values, new_values, registered}
+use Rattle.kms_model.specs.Machine.Commits.{commit_at, has_number, is_claimed, new_connector, new_crtc, new_plane, old_plane, old_values}
+use Rattle.kms_model.specs.Machine.Commits.{new_values, registered}
 use Rattle.kms_model.specs.Machine.Effects.{next, written_registers}
 use Rattle.kms_model.specs.Machine.Histories.{legal}
 use Rattle.kms_model.specs.Machine.Registers.{crtc_register, crtc_words, plane_register, plane_words}
@@ -70,10 +72,12 @@ writes_next r v k id same asked =
     }
 
 -- the commit was set up, and is not cleaned
-pub write_within : (r : Run) (st : Stores) (k object : ℕ) → Stands r st → IsWrite r.script.topology (machine r).device k object → k < length (machine r).device.commits
+pub write_within : (r : Run) (st : Stores) (k object : ℕ) → Stands r st → IsWrite r.script.topology (machine r).device k object → k
+    < length (machine r).device.commits
 write_within r st k object stands W = (facts r st stands).holds.tail.marks.claimed k W.claimed
 
-pub write_kept : (r : Run) (st : Stores) (k object : ℕ) → Stands r st → IsWrite r.script.topology (machine r).device k object → has_number (machine r).device.marks.cleaned k ≡ true → ⊥
+pub write_kept : (r : Run) (st : Stores) (k object : ℕ) → Stands r st → IsWrite r.script.topology (machine r).device k object
+    → has_number (machine r).device.marks.cleaned k ≡ true → ⊥
 write_kept r st k object stands W cleaned =
     let marks = (facts r st stands).holds.tail.marks in
     both_bools _ ((marks.done k (marks.clean_done k cleaned)).1 object W.is_registered W.touches) W.fresh
@@ -87,18 +91,21 @@ has_registers_from t object few is =
     let same = o.same in
     let within = o.within in
     or_left (is_id_of Crtc object) (is_id_of Plane object)
-    (and_from (nat_le 100 object) (nat_lt object 104) (le-leb 100 object (omega (arith, same))) (lt-ltb object 104 (omega (arith, same, within, few.crtcs))))))
+    (and_from (nat_le 100 object) (nat_lt object 104) (le-leb 100 object (omega (arith, same)))
+    (lt-ltb object 104 (omega (arith, same, within, few.crtcs))))))
     (λ (plane : IsIn object (ids_of t Plane)). (let o : IsObject t Plane object = ids-in t Plane object plane in
     let same = o.same in
     let within = o.within in
     or_right (is_id_of Crtc object) (is_id_of Plane object)
-    (and_from (nat_le 200 object) (nat_lt object 216) (le-leb 200 object (omega (arith, same))) (lt-ltb object 216 (omega (arith, same, within, few.planes))))))
+    (and_from (nat_le 200 object) (nat_lt object 216) (le-leb 200 object (omega (arith, same)))
+    (lt-ltb object 216 (omega (arith, same, within, few.planes))))))
     (in_either (ids_of t Crtc) (ids_of t Plane) object is)
 
 pub has_registers : (r v : Run) (st : Stores) (k : ℕ) (id : ObjId) → Stands r st → r ≡ v → MayWrite v k id → HasRegisters id.0
 has_registers r v st k id stands same asked =
     let N = writes_next r v k id same asked in
-    subst HasRegisters N.is_object (has_registers_from r.script.topology (object_id (kind_of id.0) (index_of id.0)) (few_objects r.script.topology stands.formed.device) N.write.is_registered)
+    subst HasRegisters N.is_object (has_registers_from r.script.topology (object_id (kind_of id.0) (index_of id.0))
+    (few_objects r.script.topology stands.formed.device) N.write.is_registered)
 
 no_others : (t : Topology) (object : ℕ) → HasFewObjects t → 300 ≤ object → IsIn object (registered t) → ⊥
 no_others t object few high is =
@@ -153,38 +160,49 @@ module _ (r : Run) (st : Stores) (k : ℕ) (x : Tail) (stands : Stands r st) (in
     crtc_some : is_some (get_or x.checked.states.crtcs index None) ≡ true
     crtc_some =
         is.checked.states.crtcs index crtc_low
-        (touched_crtc t d (machine r).records.latches k x stands.formed.device is index crtc_low ∙ and_from _ _ (lt-ltb index (count_of t Crtc) there) W.touches)
+        (touched_crtc t d (machine r).records.latches k x stands.formed.device is index crtc_low ∙ and_from _ _
+        (lt-ltb index (count_of t Crtc) there) W.touches)
 
-    crtc_states : IfSome (get_or x.checked.states.crtcs index None) (AreStates (old_crtc t d.commits k (object_id Crtc index)) (new_crtc t d.commits k (object_id Crtc index)))
+    crtc_states : IfSome (get_or x.checked.states.crtcs index None)
+        (AreStates (old_crtc t d.commits k (object_id Crtc index)) (new_crtc t d.commits k (object_id Crtc index)))
     crtc_states = crtc_is t d (machine r).records.latches k x stands.formed.device is index (get_or x.checked.states.crtcs index None) refl
 
-    crtc_held : (o : Option (Both CrtcState)) → is_some o ≡ true → IfSome o (AreStates (old_crtc t d.commits k (object_id Crtc index)) (new_crtc t d.commits k (object_id Crtc index))) → HoldsCrtc st.registers index o
+    crtc_held : (o : Option (Both CrtcState)) → is_some o ≡ true
+        → IfSome o (AreStates (old_crtc t d.commits k (object_id Crtc index)) (new_crtc t d.commits k (object_id Crtc index)))
+        → HoldsCrtc st.registers index o
     crtc_held None some states = absurd (false≢true some)
     crtc_held (Some both) some states =
         let c = commit_at t d.commits k in
         let conn = connector_on (old_values c) (object_id Crtc index) (ids_of t Conn) in
-        let S = commits_sound r.script r.steps (plain-from r.script stands.formed) stands.history k (write_within r st k (object_id Crtc index) stands W) in
+        let S = commits_sound r.script r.steps (plain-from r.script stands.formed) stands.history k
+        (write_within r st k (object_id Crtc index) stands W) in
         record {
           both = both;
           there = refl;
           words = old_crtc_held t d st.registers index conn both.old stands.stores.registers
-              (shadow_crtc (facts r st stands).holds.tail k (object_id Crtc index) crtc_id_in W ∙ sym (S.old_words (object_id Crtc index) crtc_id_in) ∙ ap (λ (s : CrtcState). crtc_words conn s) (sym states.old_is));
+              (shadow_crtc (facts r st stands).holds.tail k (object_id Crtc index) crtc_id_in W ∙ sym
+              (S.old_words (object_id Crtc index) crtc_id_in) ∙ ap (λ (s : CrtcState). crtc_words conn s) (sym states.old_is));
         }
 
     pub holds_crtc : HoldsOld st.registers x Crtc index
     holds_crtc = (crtc_low, crtc_held (get_or x.checked.states.crtcs index None) crtc_some crtc_states)
 
     crtc_writes : (new : RegisterFile) (o : Option (Both CrtcState)) → get_or x.checked.states.crtcs index None ≡ o → is_some o ≡ true
-        → IfSome o (AreStates (old_crtc t d.commits k (object_id Crtc index)) (new_crtc t d.commits k (object_id Crtc index))) → IsCrtcWritten st.registers new index o
-        → WritesCrtc st.registers new index (new_connector t d.commits k (object_id Crtc index)) (new_crtc t d.commits k (object_id Crtc index))
+        → IfSome o (AreStates (old_crtc t d.commits k (object_id Crtc index)) (new_crtc t d.commits k (object_id Crtc index)))
+        → IsCrtcWritten st.registers new index o
+        → WritesCrtc st.registers new index (new_connector t d.commits k (object_id Crtc index))
+        (new_crtc t d.commits k (object_id Crtc index))
     crtc_writes new None at some states written = absurd (false≢true some)
     crtc_writes new (Some both) at some states written =
-        subst (λ n. WritesCrtc st.registers new index n (new_crtc t d.commits k (object_id Crtc index))) (connector_at t d (machine r).records.latches k x stands.formed.device is index (Some both) at some)
+        subst (λ n. WritesCrtc st.registers new index n (new_crtc t d.commits k (object_id Crtc index)))
+        (connector_at t d (machine r).records.latches k x stands.formed.device is index (Some both) at some)
         (subst (λ s. WritesCrtc st.registers new index (connector_of (Some both)) s) states.new_is (written both refl))
 
-    pub crtc_stands : (new : RegisterFile) → IsWritten st.registers new x Crtc index → StandsForDevice t (next r.script (machine r) (step.Write k Crtc index)).device new
+    pub crtc_stands : (new : RegisterFile) → IsWritten st.registers new x Crtc index
+        → StandsForDevice t (next r.script (machine r) (step.Write k Crtc index)).device new
     crtc_stands new written =
-        write_crtc_follows r.script (machine r) k index st.registers new crtc_low stands.stores.registers (crtc_writes new (get_or x.checked.states.crtcs index None) refl crtc_some crtc_states written)
+        write_crtc_follows r.script (machine r) k index st.registers new crtc_low stands.stores.registers
+        (crtc_writes new (get_or x.checked.states.crtcs index None) refl crtc_some crtc_states written)
 
   module _ (W : IsWrite t d k (object_id Plane index)) (there : index < count_of t Plane) where
     plane_low : index < 16
@@ -196,25 +214,32 @@ module _ (r : Run) (st : Stores) (k : ℕ) (x : Tail) (stands : Stands r st) (in
     plane_some : is_some (get_or x.checked.states.planes index None) ≡ true
     plane_some =
         is.checked.states.planes index plane_low
-        (touched_plane t d (machine r).records.latches k x stands.formed.device is index plane_low ∙ and_from _ _ (lt-ltb index (count_of t Plane) there) W.touches)
+        (touched_plane t d (machine r).records.latches k x stands.formed.device is index plane_low ∙ and_from _ _
+        (lt-ltb index (count_of t Plane) there) W.touches)
 
-    plane_states : IfSome (get_or x.checked.states.planes index None) (AreStates (old_plane t d.commits k (object_id Plane index)) (new_plane t d.commits k (object_id Plane index)))
-    plane_states = plane_is t d (machine r).records.latches k x stands.formed.device is index (get_or x.checked.states.planes index None) refl
+    plane_states : IfSome (get_or x.checked.states.planes index None)
+        (AreStates (old_plane t d.commits k (object_id Plane index)) (new_plane t d.commits k (object_id Plane index)))
+    plane_states = plane_is t d (machine r).records.latches k x stands.formed.device is index (get_or x.checked.states.planes index None)
+        refl
 
     old_in_range : IsPlaneInRange (old_plane t d.commits k (object_id Plane index))
     unfolding old_plane
     old_in_range =
-        let S = commits_sound r.script r.steps (plain-from r.script stands.formed) stands.history k (write_within r st k (object_id Plane index) stands W) in
+        let S = commits_sound r.script r.steps (plain-from r.script stands.formed) stands.history k
+        (write_within r st k (object_id Plane index) stands W) in
         sound-plane_in_range t (commit_at t d.commits k).world index S.lawful.sound there
 
     new_in_range : IsPlaneInRange (new_plane t d.commits k (object_id Plane index))
     unfolding new_plane
     new_in_range =
         let c = commit_at t d.commits k in
-        let S = commits_sound r.script r.steps (plain-from r.script stands.formed) stands.history k (write_within r st k (object_id Plane index) stands W) in
+        let S = commits_sound r.script r.steps (plain-from r.script stands.formed) stands.history k
+        (write_within r st k (object_id Plane index) stands W) in
         sound-plane_in_range t (record c.world { values = new_values c; commits = c.world.commits + 1 }) index S.lawful_after.sound there
 
-    plane_held : (o : Option (Both PlaneState)) → is_some o ≡ true → IfSome o (AreStates (old_plane t d.commits k (object_id Plane index)) (new_plane t d.commits k (object_id Plane index))) → HoldsPlane st.registers index o
+    plane_held : (o : Option (Both PlaneState)) → is_some o ≡ true
+        → IfSome o (AreStates (old_plane t d.commits k (object_id Plane index)) (new_plane t d.commits k (object_id Plane index)))
+        → HoldsPlane st.registers index o
     plane_held None some states = absurd (false≢true some)
     plane_held (Some both) some states =
         let F = facts r st stands in
@@ -225,59 +250,76 @@ module _ (r : Run) (st : Stores) (k : ℕ) (x : Tail) (stands : Stands r st) (in
           old_range = subst IsPlaneInRange (sym states.old_is) old_in_range;
           new_range = subst IsPlaneInRange (sym states.new_is) new_in_range;
           words = old_plane_held t d st.registers index both.old stands.stores.registers
-              (shadow_is F.holds.tail F.whole.apart k (object_id Plane index) plane_id_in W ∙ sym (F.whole.apart.old_words k (object_id Plane index) within plane_id_in) ∙ ap plane_words (sym states.old_is));
+              (shadow_is F.holds.tail F.whole.apart k (object_id Plane index) plane_id_in W ∙ sym
+              (F.whole.apart.old_words k (object_id Plane index) within plane_id_in) ∙ ap plane_words (sym states.old_is));
         }
 
     pub holds_plane : HoldsOld st.registers x Plane index
     holds_plane = (plane_low, plane_held (get_or x.checked.states.planes index None) plane_some plane_states)
 
-    plane_writes : (new : RegisterFile) (o : Option (Both PlaneState)) → is_some o ≡ true → IfSome o (AreStates (old_plane t d.commits k (object_id Plane index)) (new_plane t d.commits k (object_id Plane index))) → IsPlaneWritten st.registers new index o
+    plane_writes : (new : RegisterFile) (o : Option (Both PlaneState)) → is_some o ≡ true
+        → IfSome o (AreStates (old_plane t d.commits k (object_id Plane index)) (new_plane t d.commits k (object_id Plane index)))
+        → IsPlaneWritten st.registers new index o
         → WritesPlane st.registers new index (new_plane t d.commits k (object_id Plane index))
     plane_writes new None some states written = absurd (false≢true some)
     plane_writes new (Some both) some states written = subst (λ s. WritesPlane st.registers new index s) states.new_is (written both refl)
 
-    pub plane_stands : (new : RegisterFile) → IsWritten st.registers new x Plane index → StandsForDevice t (next r.script (machine r) (step.Write k Plane index)).device new
-    plane_stands new written = write_plane_follows r.script (machine r) k index st.registers new stands.stores.registers (plane_writes new (get_or x.checked.states.planes index None) plane_some plane_states written)
+    pub plane_stands : (new : RegisterFile) → IsWritten st.registers new x Plane index
+        → StandsForDevice t (next r.script (machine r) (step.Write k Plane index)).device new
+    plane_stands new written = write_plane_follows r.script (machine r) k index st.registers new stands.stores.registers
+        (plane_writes new (get_or x.checked.states.planes index None) plane_some plane_states written)
 
 -- What the functions of one object leave
 
-pub crtc_written : (old new : RegisterFile) (index conn : ℕ) (o : Option (Both CrtcState)) (found : Both CrtcState) → Some found ≡ o → conn ≡ connector_of o → HoldsCrtc old index o
-    → (crtc_register old.shadow (object_id Crtc index) ≡ crtc_words (crtc_register old.shadow (object_id Crtc index)).conn found.old → WritesCrtc old new index conn found.new) → IsCrtcWritten old new index o
+pub crtc_written : (old new : RegisterFile) (index conn : ℕ) (o : Option (Both CrtcState)) (found : Both CrtcState) → Some found ≡ o → conn
+    ≡ connector_of o → HoldsCrtc old index o
+    → (crtc_register old.shadow (object_id Crtc index) ≡ crtc_words (crtc_register old.shadow (object_id Crtc index)).conn found.old
+    → WritesCrtc old new index conn found.new) → IsCrtcWritten old new index o
 crtc_written old new index conn o found is conn_is holds writes both there =
     let one : Some found ≡ Some both = is ∙ there in
     let same : found ≡ both = cc in
     let held : Some holds.both ≡ Some found = sym holds.there ∙ sym is in
     let at : holds.both ≡ found = cc in
     subst (λ (b : Both CrtcState). WritesCrtc old new index (connector_of o) b.new) same
-    (subst (λ n. WritesCrtc old new index n found.new) conn_is (writes (holds.words ∙ ap (λ (b : Both CrtcState). crtc_words (crtc_register old.shadow (object_id Crtc index)).conn b.old) at)))
+    (subst (λ n. WritesCrtc old new index n found.new) conn_is
+    (writes (holds.words ∙ ap (λ (b : Both CrtcState). crtc_words (crtc_register old.shadow (object_id Crtc index)).conn b.old) at)))
 
-pub plane_written : (old new : RegisterFile) (index : ℕ) (o : Option (Both PlaneState)) (found : Both PlaneState) → Some found ≡ o → HoldsPlane old index o
-    → (plane_register old.shadow (object_id Plane index) ≡ plane_words found.old → WritesPlane old new index found.new) → IsPlaneWritten old new index o
+pub plane_written : (old new : RegisterFile) (index : ℕ) (o : Option (Both PlaneState)) (found : Both PlaneState) → Some found ≡ o
+    → HoldsPlane old index o
+    → (plane_register old.shadow (object_id Plane index) ≡ plane_words found.old → WritesPlane old new index found.new)
+    → IsPlaneWritten old new index o
 plane_written old new index o found is holds writes both there =
     let one : Some found ≡ Some both = is ∙ there in
     let same : found ≡ both = cc in
     let held : Some holds.both ≡ Some found = sym holds.there ∙ sym is in
     let at : holds.both ≡ found = cc in
-    subst (λ (b : Both PlaneState). WritesPlane old new index b.new) same (writes (holds.words ∙ ap (λ (b : Both PlaneState). plane_words b.old) at))
+    subst (λ (b : Both PlaneState). WritesPlane old new index b.new) same
+    (writes (holds.words ∙ ap (λ (b : Both PlaneState). plane_words b.old) at))
 
 -- All stores stand after the write
 
-tail_holds : (r : Run) (st : Stores) (k : ℕ) (x : Tail) (kind : Kind) (index : ℕ) → Stands r st → index < count_of r.script.topology kind → IsWrite r.script.topology (machine r).device k (object_id kind index)
+tail_holds : (r : Run) (st : Stores) (k : ℕ) (x : Tail) (kind : Kind) (index : ℕ) → Stands r st → index < count_of r.script.topology kind
+    → IsWrite r.script.topology (machine r).device k (object_id kind index)
     → IsTailOf r.script.topology (machine r).device.commits (machine r).device.marks (machine r).records.latches k x
     → HoldsOld st.registers x kind index
 tail_holds r st k x Crtc index stands there W is = holds_crtc r st k x stands index is W there
 tail_holds r st k x Plane index stands there W is = holds_plane r st k x stands index is W there
-tail_holds r st k x Conn index stands there W is = no_others r.script.topology (object_id Conn index) (few_objects r.script.topology stands.formed.device) (omega arith) W.is_registered
-tail_holds r st k x Enc index stands there W is = no_others r.script.topology (object_id Enc index) (few_objects r.script.topology stands.formed.device) (omega arith) W.is_registered
+tail_holds r st k x Conn index stands there W is = no_others r.script.topology (object_id Conn index)
+    (few_objects r.script.topology stands.formed.device) (omega arith) W.is_registered
+tail_holds r st k x Enc index stands there W is = no_others r.script.topology (object_id Enc index)
+    (few_objects r.script.topology stands.formed.device) (omega arith) W.is_registered
 
-registers_stand : (r : Run) (st : Stores) (k : ℕ) (x : Tail) (kind : Kind) (index : ℕ) (new : RegisterFile) → Stands r st → index < count_of r.script.topology kind → IsWrite r.script.topology (machine r).device k (object_id kind index)
+registers_stand : (r : Run) (st : Stores) (k : ℕ) (x : Tail) (kind : Kind) (index : ℕ) (new : RegisterFile) → Stands r st → index
+    < count_of r.script.topology kind → IsWrite r.script.topology (machine r).device k (object_id kind index)
     → IsTailOf r.script.topology (machine r).device.commits (machine r).device.marks (machine r).records.latches k x
     → IsWritten st.registers new x kind index
     → StandsForDevice r.script.topology (next r.script (machine r) (step.Write k kind index)).device new
 registers_stand r st k x Crtc index new stands there W is written = crtc_stands r st k x stands index is W there new written
 registers_stand r st k x Plane index new stands there W is written = plane_stands r st k x stands index is W there new written
-registers_stand r st k x Conn index new stands there W is written = absurd (no_others r.script.topology (object_id Conn index) (few_objects r.script.topology stands.formed.device) (omega arith) W.is_registered)
-registers_stand r st k x Enc index new stands there W is written = absurd (no_others r.script.topology (object_id Enc index) (few_objects r.script.topology stands.formed.device) (omega arith) W.is_registered)
+registers_stand r st k x Conn index new stands there W is written = absurd
+    (no_others r.script.topology (object_id Conn index) (few_objects r.script.topology stands.formed.device) (omega arith) W.is_registered)
+registers_stand r st k x Enc index new stands there W is written = absurd
+    (no_others r.script.topology (object_id Enc index) (few_objects r.script.topology stands.formed.device) (omega arith) W.is_registered)
 
 -- the tail that was found is the commit's
 tail_is : (r : Run) (st : Stores) (k object : ℕ) (x : Tail) → Stands r st → IsWrite r.script.topology (machine r).device k object
@@ -289,7 +331,8 @@ pub holds_old : (r v : Run) (st : Stores) (k : ℕ) (id : ObjId) (x : Tail) → 
     → Some x ≡ tail_of st.tracker k → HoldsOld st.registers x (kind_of id.0) (index_of id.0)
 holds_old r v st k id x stands same asked finds =
     let N = writes_next r v k id same asked in
-    tail_holds r st k x (kind_of id.0) (index_of id.0) stands N.there N.write (tail_is r st k (object_id (kind_of id.0) (index_of id.0)) x stands N.write finds)
+    tail_holds r st k x (kind_of id.0) (index_of id.0) stands N.there N.write
+    (tail_is r st k (object_id (kind_of id.0) (index_of id.0)) x stands N.write finds)
 
 pub writes_object : (r v : Run) (st : Stores) (k : ℕ) (id : ObjId) (x : Tail) (new : RegisterFile) (w : Tracking) (before steps : List Step)
     → Stands r st → r ≡ v → MayWrite v k id → Some x ≡ tail_of st.tracker k → before ≡ r.steps → steps ≡ before ++ write_step k id ∷ []

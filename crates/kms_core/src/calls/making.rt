@@ -109,7 +109,7 @@ fn fence_of(things: &Things, command: &Command, reply: &Reply) -> Option<u32>
     ensures { result ≡ fence_of things.now.things command.now reply.now }
 {
     match (command, reply) {
-        (Command::Signal { label }, Reply::Done) => Some(things.labelled(*label)?.id),
+        (Command::Signal { label }, Reply::Done) => Some(things.thing_labelled(*label)?.id),
         _ => None,
     }
 }

@@ -11,8 +11,8 @@ ghost use Rattle.kms_model.specs.Machine.State.{Machine, request_in};
 ghost use Rattle.kms_model.specs.Request.Flags.{is_nonblock};
 ghost use Rattle.kms_model.specs.Request.Touched.{out_fence_label};
 ghost use Rattle.kms_model.specs.Things.Tables.{AreBelow};
-ghost use Rattle.kms_clients.specs.InStep.{AreClientsOf, IsTaking, after_decision, after_swap};
-ghost use Rattle.kms_clients.specs.Standing.{IsClient, place_of};
+ghost use Rattle.kms_wwlock.specs.InStep.{AreClientsOf, IsTaking, after_decision, after_swap};
+ghost use Rattle.kms_wwlock.specs.Standing.{IsClient, place_of};
 ghost use Rattle.kms_signal.specs.Queues.{HasSpace};
 ghost use Rattle.kms_things.specs.Made.{HasIds, with_made};
 ghost use Rattle.kms_track.specs.Tracking.{IsSetUp};
@@ -25,7 +25,6 @@ ghost use Rattle.kms_core.specs.SwappedIn.{events_asked_for, fences_for, fences_
 use crate::deciding::present::present_after;
 use crate::lists::Log;
 use crate::stores::{Stores, answer, count_in, join, make_room, make_spare};
-use kms_clients::Clients;
 use kms_model::{
     Answered, Checked, FIRST_CRTC_ID, Latch, MAX_CRTCS, NoMemory, ObjId, Reply, Request, Resolved,
     Script, Seq, Step, request_of,
@@ -34,6 +33,7 @@ use kms_props::{is_nonblock, wants_event};
 use kms_signal::{EventQueue, Fences};
 use kms_things::Things;
 use kms_track::{Signals, Tracker};
+use kms_wwlock::Clients;
 use std::alloc::Global;
 
 /// Commits the request of a client, by its number from 1, whose swap nothing hinders, and gives the commit's number,
@@ -97,7 +97,7 @@ pub fn commit(
 fn made_fence(things: &Things, label: Option<u32>) -> Option<u32>
     ensures { result ≡ id_made_under things.now.things label }
 {
-    Some(things.labelled(label?)?.id)
+    Some(things.thing_labelled(label?)?.id)
 }
 
 /// The ids of the out-fences that were made under labels, by place. (Kernel: "Explicit Fencing Properties",

@@ -9,7 +9,7 @@ ghost use Rattle.kms_model.specs.Request.Deciding.{IsChecked};
 ghost use Rattle.kms_model.specs.Request.Lookups.{look_up};
 ghost use Rattle.kms_model.specs.Request.Resolves.{IsResolved};
 ghost use Rattle.kms_model.specs.Request.Verdict.{early_in, verdict};
-ghost use Rattle.kms_clients.specs.InStep.{AreClientsOf};
+ghost use Rattle.kms_wwlock.specs.InStep.{AreClientsOf};
 ghost use Rattle.kms_request.specs.Whole.{is_member};
 ghost use Rattle.kms_track.specs.Places.{all_below};
 ghost use Rattle.kms_core.specs.Decisions.{world};
@@ -23,14 +23,15 @@ use crate::next::has_client;
 use crate::next::judgement::Judged;
 use crate::next::lookers::{Ever, Now};
 use crate::stores::late_reply;
-use kms_clients::Clients;
 use kms_model::{
     Checked, Command, Doing, Kind, MAX_LOCKABLE, Mask, NoMemory, ObjId, Reply, Request, Resolved,
     Topology, command_of, has_bit,
 };
 use kms_props::is_test;
 use kms_request::{RequestError, changed, early, exists, full_check, reach, resolve, spans};
+use kms_state::InPlace;
 use kms_track::{has_object, object_at_place};
+use kms_wwlock::Clients;
 use std::alloc::Global;
 
 /// Whether a client, by its number from 1, may ask for the object of a kind with an index: it takes locks for a request
@@ -47,7 +48,13 @@ pub(crate) fn may_lock(core: &Core, client: u32, kind: Kind, index: u32) -> bool
     if !is_lockable(topology, kind, index) {
         return false;
     }
-    let reached = reach(topology, request, &Ever(&stores.things), &stores.present);
+    let reached = reach(
+        topology,
+        request,
+        &Ever(&stores.things),
+        &stores.present,
+        &InPlace,
+    );
     is_member(&reached, kind, index)
         && stores
             .clients
@@ -112,7 +119,7 @@ pub(crate) fn judge(core: &Core, client: u32, request: &Request) -> Option<Judge
     if early(topology, request, &found).is_some() {
         return None;
     }
-    let after = changed(topology, request, &found, &stores.present);
+    let after = changed(topology, request, &found, &stores.present, &InPlace);
     let (named, touched) = spans(&after, request);
     let queue = &stores.queues[(client - 1) as usize];
     Some(Judged {
@@ -159,6 +166,7 @@ pub fn check_request(core: &Core, request: &Request) -> Checked
         request,
         &Now(&stores.things),
         &stores.present,
+        &InPlace,
     );
     let (named, touched) = spans(&states, request);
     Checked {

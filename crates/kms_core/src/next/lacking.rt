@@ -9,7 +9,7 @@ ghost use Rattle.kms_model.specs.Machine.State.{Machine, holds};
 ghost use Rattle.kms_model.specs.Machine.Steps.{is_lockable, may_lock};
 ghost use Rattle.kms_model.specs.Order.Turns.{lock_step, next_lock};
 ghost use Rattle.kms_model.specs.Request.Verdict.{early_in};
-ghost use Rattle.kms_clients.specs.InStep.{AreClientsOf};
+ghost use Rattle.kms_wwlock.specs.InStep.{AreClientsOf};
 ghost use Rattle.kms_wwlock.specs.Objects.{IsLockable};
 ghost use Rattle.kms_core.specs.Decisions.{world};
 ghost use Rattle.kms_core.specs.Judging.{request_taken};
@@ -20,9 +20,9 @@ use crate::machine::Core;
 use crate::next::groups::{Group, Needs};
 use crate::next::judging::{check_request, is_member};
 use crate::next::moving::objects;
-use kms_clients::Clients;
 use kms_model::{Kind, ObjId, Request, Step};
 use kms_request::{affected, only_crtcs};
+use kms_wwlock::Clients;
 
 /// The lock that a client, by its number from 1, takes next for a request.
 pub(crate) fn lock_step(core: &Core, client: u32, request: &Request) -> Option<Step>

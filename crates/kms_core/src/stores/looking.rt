@@ -4,11 +4,11 @@ ghost use Rattle.kms_model.specs.Device.World.{thing_labelled};
 ghost use Rattle.kms_model.specs.Request.Lookups.{look_of};
 ghost use Rattle.kms_core.specs.declared.stores.looking.Decided.TheVariants as decided;
 ghost use Rattle.kms_core.specs.Decisions.{IsFirstStale, labels_of, looks_at, taker_at, taker_in};
-ghost use Rattle.kms_clients.specs.Standing.{doing_in};
+ghost use Rattle.kms_wwlock.specs.Standing.{doing_in};
 
-use kms_clients::Clients;
 use kms_model::{Assign, Doing, Look, Lookups, MAX_CLIENTS, NoMemory, ObjId, Reply, Ticket, Value};
 use kms_things::Things;
+use kms_wwlock::Clients;
 use std::alloc::Global;
 
 /// What a call that decides about a request answers.

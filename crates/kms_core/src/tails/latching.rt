@@ -61,7 +61,7 @@ impl Core {
             kind: Kind::Crtc,
             index: crtc,
         });
-        stores.tracker.flushed(commit, crtc);
+        stores.tracker.mark_flushed(commit, crtc);
         if stores.registers.is_on_in_shadow(crtc) {
             let _none = stores.registers.flush(crtc);
             stores.goes[crtc as usize] = Some(commit);

@@ -46,7 +46,7 @@ impl Core {
             unreachable!();
         };
         write_registers(&mut stores.registers, tail, id);
-        stores.tracker.wrote(commit, id);
+        stores.tracker.mark_written(commit, id);
         stores.steps.push(write_step(commit, id));
     }
 

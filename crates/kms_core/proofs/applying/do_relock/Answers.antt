@@ -1,5 +1,5 @@
 use Rattle.std.proofs.Common.{◌∙◌, ap, sym}
-use Rattle.kms_clients.specs.Standing.{ticket_in}
+use Rattle.kms_wwlock.specs.Standing.{ticket_in}
 use Rattle.kms_core.specs.Run.{gains}
 use Rattle.kms_core.proofs.Applied.{relock_asked, relock_done, relock_there}
 use Rattle.kms_core.proofs.applying.do_relock.Goals as goal

@@ -7,7 +7,8 @@ use Rattle.kms_track.specs.declared.tail.Signals.{Signals}
 use Rattle.kms_track.specs.Tracking.{IsSetUp}
 use Rattle.kms_core.specs.Run.{machine}
 use Rattle.kms_core.specs.SwappedIn.{fences_under, labels_in, signals_for}
-use Rattle.kms_core.proofs.deciding.Commits.{again, commits, decider, few_commits, few_waits, found_queue, has_ids, high, may_now, own, queues_same, roomy, set_up_same, space_again, there}
+use Rattle.kms_core.proofs.deciding.Commits.{again, commits, decider, few_commits, few_waits, found_queue, has_ids, high, may_now, own}
+use Rattle.kms_core.proofs.deciding.Commits.{queues_same, roomy, set_up_same, space_again, there}
 use Rattle.kms_core.specs.Insides.{run_in, stores_of}
 use Rattle.kms_core.proofs.stores.Spared.{still_spared, swap_spared, with_latches}
 use Rattle.kms_core.proofs.stores.WithRoom.{stands_with_room}
@@ -40,7 +41,9 @@ invariant_of-stores-in_err-make_tail_room c =
 
 pub make_out_fences-requires-clause-ids : goal.make_out_fences-requires-clause-ids
 make_out_fences-requires-clause-ids c =
-    has_ids (run_in c.stores.inside) (stores_of c.stores.inside) c.args.client c.args.checked.now c.args.resolved.now c.stores.invariant.stands (may_now (run_in c.stores.inside) c.args.stores.now c.args.client c.args.checked.now c.args.resolved.now c.stores.view_is c.requires)
+    has_ids (run_in c.stores.inside) (stores_of c.stores.inside) c.args.client c.args.checked.now c.args.resolved.now
+    c.stores.invariant.stands (may_now (run_in c.stores.inside) c.args.stores.now c.args.client c.args.checked.now c.args.resolved.now
+    c.stores.view_is c.requires)
 
 pub invariant_of-stores-in_err-make_out_fences : goal.invariant_of-stores-in_err-make_out_fences
 invariant_of-stores-in_err-make_out_fences c =
@@ -60,28 +63,37 @@ invariant_of-stores-in_err-make_out_fences c =
 pub index_mut-requires-2 : goal.index_mut-requires-2
 index_mut-requires-2 c =
     let fits =
-    (own (run_in c.stores.inside) (stores_of c.stores.inside) c.args.client c.args.checked.now c.args.resolved.now c.stores.invariant.stands (may_now (run_in c.stores.inside) c.args.stores.now c.args.client c.args.checked.now c.args.resolved.now c.stores.view_is c.requires)).within
+    (own (run_in c.stores.inside) (stores_of c.stores.inside) c.args.client c.args.checked.now c.args.resolved.now c.stores.invariant.stands
+    (may_now (run_in c.stores.inside) c.args.stores.now c.args.client c.args.checked.now c.args.resolved.now c.stores.view_is
+    c.requires)).within
     in search rules
 
 pub set_up-commit-requires-clause-count : goal.set_up-commit-requires-clause-count
 set_up-commit-requires-clause-count c =
     rw c.in_ok-make_tail_room.ensures.kept.tracking.count
-    (few_commits (run_in c.stores.inside) (stores_of c.stores.inside) c.args.client c.args.checked.now c.args.resolved.now c.stores.invariant.stands (may_now (run_in c.stores.inside) c.args.stores.now c.args.client c.args.checked.now c.args.resolved.now c.stores.view_is c.requires))
+    (few_commits (run_in c.stores.inside) (stores_of c.stores.inside) c.args.client c.args.checked.now c.args.resolved.now
+    c.stores.invariant.stands (may_now (run_in c.stores.inside) c.args.stores.now c.args.client c.args.checked.now c.args.resolved.now
+    c.stores.view_is c.requires))
 
 pub set_up-commit-requires-clause-fences : goal.set_up-commit-requires-clause-fences
 set_up-commit-requires-clause-fences c =
-    few_waits (run_in c.stores.inside) (stores_of c.stores.inside) c.args.client c.args.checked.now c.args.resolved.now c.stores.invariant.stands (may_now (run_in c.stores.inside) c.args.stores.now c.args.client c.args.checked.now c.args.resolved.now c.stores.view_is c.requires)
+    few_waits (run_in c.stores.inside) (stores_of c.stores.inside) c.args.client c.args.checked.now c.args.resolved.now
+    c.stores.invariant.stands (may_now (run_in c.stores.inside) c.args.stores.now c.args.client c.args.checked.now c.args.resolved.now
+    c.stores.view_is c.requires)
 
 pub leave-requires-clause-command : goal.leave-requires-clause-command
 leave-requires-clause-command c =
-    (decider (run_in c.stores.inside) (stores_of c.stores.inside) c.args.client c.args.checked.now c.args.resolved.now c.stores.invariant.stands (may_now (run_in c.stores.inside) c.args.stores.now c.args.client c.args.checked.now c.args.resolved.now c.stores.view_is c.requires)).command_fits
+    (decider (run_in c.stores.inside) (stores_of c.stores.inside) c.args.client c.args.checked.now c.args.resolved.now
+    c.stores.invariant.stands (may_now (run_in c.stores.inside) c.args.stores.now c.args.client c.args.checked.now c.args.resolved.now
+    c.stores.view_is c.requires)).command_fits
 
 pub reserve_events-requires-clause-space : goal.reserve_events-requires-clause-space
 reserve_events-requires-clause-space c =
     let r = run_in c.stores.inside in
     let st = stores_of c.stores.inside in
     let can = may_now r c.args.stores.now c.args.client c.args.checked.now c.args.resolved.now c.stores.view_is c.requires in
-    let first = found_queue r st c.args.client c.args.checked.now c.args.resolved.now c.stores.invariant.stands can _ _ c.index_mut.ensures.value in
+    let first = found_queue r st c.args.client c.args.checked.now c.args.resolved.now c.stores.invariant.stands can _ _
+    c.index_mut.ensures.value in
     let second = again r st c.args.client c.args.checked.now c.args.resolved.now c.stores.invariant.stands can
     c.make_tail_room.new.queue _ _ c.index_mut-2.ensures.value in
     rw second
@@ -99,7 +111,9 @@ reserve_events-requires-clause-room c =
 
 pub signals_of-signals-requires : goal.signals_of-signals-requires
 signals_of-signals-requires c =
-    there (run_in c.stores.inside) (stores_of c.stores.inside) c.args.client c.args.checked.now c.args.resolved.now c.stores.invariant.stands (may_now (run_in c.stores.inside) c.args.stores.now c.args.client c.args.checked.now c.args.resolved.now c.stores.view_is c.requires)
+    there (run_in c.stores.inside) (stores_of c.stores.inside) c.args.client c.args.checked.now c.args.resolved.now
+    c.stores.invariant.stands (may_now (run_in c.stores.inside) c.args.stores.now c.args.client c.args.checked.now c.args.resolved.now
+    c.stores.view_is c.requires)
     _ (ap (λ (p : Place). p.command) c.place-number.ensures)
 
 pub invariant_of-stores-2 : goal.invariant_of-stores-2
@@ -117,7 +131,9 @@ invariant_of-stores-2 c =
     c.index_mut-2.ensures.value in
     let third = again r st c.args.client c.args.checked.now c.args.resolved.now before can c.make_tail_room.new.queue _ empty_queue refl in
     let stands =
-    commits r st c.args.client c.args.checked.now c.args.resolved.now before can c.set_up-commit.result c.leave.new.clients c.reply_commit.new.journal c.reply_commit.new.replies c.make_out_fences.new.things c.present_after-stores-inside.result c.make_out_fences.new.fences
+    commits r st c.args.client c.args.checked.now c.args.resolved.now before can c.set_up-commit.result c.leave.new.clients
+    c.reply_commit.new.journal c.reply_commit.new.replies c.make_out_fences.new.things c.present_after-stores-inside.result
+    c.make_out_fences.new.fences
     (slice_set c.stores.inside.queues.items (c.args.client - 1) c.make_tail_room.new.queue) c.reserve_events.new.queue
     c.set_up-commit.new.tracker
     (record {
@@ -130,7 +146,8 @@ invariant_of-stores-2 c =
         c.place-number.ensures,
       ) refl;
       journal_more = c.reply_commit.ensures.journal ∙ rw (c.in_ok-make_record_room.ensures.journal, c.place-number.ensures) refl;
-      made_as = λ w assigns crtcs is. c.in_ok-make_out_fences.ensures.made w assigns crtcs (rw (c.out_labels-labels.ensures, c.as_slice.ensures.value) is);
+      made_as = λ w assigns crtcs is. c.in_ok-make_out_fences.ensures.made w assigns crtcs
+          (rw (c.out_labels-labels.ensures, c.as_slice.ensures.value) is);
       counted = c.in_ok-make_out_fences.ensures.counted;
       present_swapped = c.present_after-stores-inside.ensures;
       fences_more = c.in_ok-make_out_fences.ensures.fences ∙ rw (
@@ -142,7 +159,8 @@ invariant_of-stores-2 c =
           queues_same (length r.script.clients) m.events c.args.client st.queues c.make_tail_room.new.queue mine.low most
           (c.in_ok-make_tail_room.ensures.kept.reserved ∙ ap (λ (q : Queue). q.reserved) first)
           (c.in_ok-make_tail_room.ensures.kept.unread ∙ ap (λ (q : Queue). q.unread) first) before.stores.queues;
-      reserved = c.reserve_events.ensures.reserved ∙ ap (λ (q : Queue). q.reserved + c.events_asked_for-events.result) (second ∙ sym third) ∙ rw c.events_asked_for-events.ensures.count refl;
+      reserved = c.reserve_events.ensures.reserved ∙ ap (λ (q : Queue). q.reserved + c.events_asked_for-events.result) (second ∙ sym third)
+          ∙ rw c.events_asked_for-events.ensures.count refl;
       unread = c.reserve_events.ensures.unread ∙ ap (λ (q : Queue). q.unread) (second ∙ sym third);
       set_up = λ q is.
           set_up_same c.stores.inside.tracker c.make_tail_room.new.tracker c.set_up-commit.new.tracker _ c.args.checked.now _

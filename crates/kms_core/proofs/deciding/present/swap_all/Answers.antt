@@ -13,11 +13,15 @@ loop-index-preserved g c =
     let there : c.loop-index.index < length c.args.checked.now = omega (arith, c.requires, c.loop-index-test.true) in
     record {
       size = length-set _ _ _ ∙ c.loop-index.invariant.size;
-      done = each_below (λ p. swapped_in (get_or c.args.states.now p None) (get_or c.args.checked.now p None)) c.loop-index.states c.loop-index.index c.swap_one.result None within c.loop-index.invariant.done
-          (swapped_here c.loop-index.states c.args.states.now c.args.checked.now c.loop-index.index c.index-states-index.result c.index-checked-index.result c.swap_one.result within there c.swap_one.ensures
+      done = each_below (λ p. swapped_in (get_or c.args.states.now p None) (get_or c.args.checked.now p None)) c.loop-index.states
+          c.loop-index.index c.swap_one.result None within c.loop-index.invariant.done
+          (swapped_here c.loop-index.states c.args.states.now c.args.checked.now c.loop-index.index c.index-states-index.result
+          c.index-checked-index.result c.swap_one.result within there c.swap_one.ensures
           c.index-states-index.is c.index-checked-index.is (c.loop-index.invariant.left c.loop-index.index (omega arith)));
-      left = each_behind (λ p. get_or c.args.states.now p None) c.loop-index.states c.loop-index.index c.swap_one.result None c.loop-index.invariant.left;
+      left = each_behind (λ p. get_or c.args.states.now p None) c.loop-index.states c.loop-index.index c.swap_one.result None
+          c.loop-index.invariant.left;
     }
 
 pub returns : goal.returns
-returns g c = swapped_all c.loop-index.states c.args.states.now c.args.checked.now c.loop-index.index c.loop-index.invariant.size c.loop-index-test.false c.loop-index.invariant.done
+returns g c = swapped_all c.loop-index.states c.args.states.now c.args.checked.now c.loop-index.index c.loop-index.invariant.size
+    c.loop-index-test.false c.loop-index.invariant.done

@@ -12,7 +12,8 @@ use Rattle.kms_core.proofs.freeing.freed.free.Goals as goal
 
 pub release-requires-clause-place : goal.release-requires-clause-place
 release-requires-clause-place c =
-    among_needs c.args.things.now.things (get_or c.args.ids.now c.loop-id.id-index 0) (drop c.loop-id.id-index c.args.ids.now) (drop (c.loop-id.id-index + 1) c.args.ids.now) c.freed_label-label.result c.loop-id.freed.places
+    among_needs c.args.things.now.things (get_or c.args.ids.now c.loop-id.id-index 0) (drop c.loop-id.id-index c.args.ids.now)
+    (drop (c.loop-id.id-index + 1) c.args.ids.now) c.freed_label-label.result c.loop-id.freed.places
     (at_drop_more (λ xs. xs) c.args.ids.now c.loop-id.id-index 0 c.loop-id-test.true)
     (subst (λ things. IfSome c.freed_label-label.result
     (λ label. is_framebuffer_in (thing_with_id things (get_or c.args.ids.now c.loop-id.id-index 0)) ≡ true))
@@ -53,7 +54,8 @@ loop-id-preserved c =
           (c.freed_label-label.ensures.label t m (tells_still t m first c.loop-id.things _ _ _ _ c.loop-id.invariant.only tell))
           (c.loop-id.invariant.places t m tell);
       room = among_room first.things id (drop i ids)
-          (drop (i + 1) ids) label c.loop-id.freed.places c.release.new.freed.places more c.release.ensures.places there c.loop-id.invariant.room;
+          (drop (i + 1) ids) label c.loop-id.freed.places c.release.new.freed.places more c.release.ensures.places there
+          c.loop-id.invariant.room;
       only = fbs_again first c.loop-id.things c.release.new.things _ c.loop-id.invariant.only c.release.ensures.given;
       left = λ t m tell.
           among_fbs t m id (drop i ids) (drop (i + 1) ids) label c.loop-id.things.fbs c.release.new.things.fbs _ more new_fbs
@@ -61,15 +63,18 @@ loop-id-preserved c =
           (c.loop-id.invariant.left t m tell);
       rising = rest_rising id (drop i ids) (drop (i + 1) ids) more c.loop-id.invariant.rising;
       held = among_held first.things id (drop i ids)
-          (drop (i + 1) ids) label c.loop-id.things.fbs c.release.new.things.fbs more new_fbs c.loop-id.invariant.rising c.loop-id.invariant.held;
+          (drop (i + 1) ids) label c.loop-id.things.fbs c.release.new.things.fbs more new_fbs c.loop-id.invariant.rising
+          c.loop-id.invariant.held;
     }
 
 pub returns : goal.returns
 returns c =
     let none = drop_all c.loop-id.id-index c.args.ids.now c.loop-id-test.false in
     record {
-      items = λ t m tell. sym (among_ends c.loop-id.freed.items) ∙ ap (λ xs. c.loop-id.freed.items ++ freed_among t m xs) (sym none) ∙ c.loop-id.invariant.items t m tell;
-      places = λ t m tell. (let left = ap (λ xs. length (freed_among t m xs)) none in let all = c.loop-id.invariant.places t m tell in omega (arith, left, all));
+      items = λ t m tell. sym (among_ends c.loop-id.freed.items) ∙ ap (λ xs. c.loop-id.freed.items ++ freed_among t m xs) (sym none) ∙
+          c.loop-id.invariant.items t m tell;
+      places = λ t m tell. (let left = ap (λ xs. length (freed_among t m xs)) none in let all = c.loop-id.invariant.places t m tell
+          in omega (arith, left, all));
       made = λ t m tell.
           c.loop-id.invariant.only
           ∙ ap (λ fbs. record c.args.things.now { fbs = fbs })

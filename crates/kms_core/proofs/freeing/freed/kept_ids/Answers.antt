@@ -13,11 +13,13 @@ loop-index-init c = record {
 
 pub loop-index-preserved : goal.loop-index-preserved
 loop-index-preserved c = record {
-  so_far = put_on c.args.tail.now c.loop-index.index c.touched_plane.result c.loop-index.ids.items c.put_both.new.ids.items c.loop-index-test.true c.loop-index.invariant.so_far c.touched_plane.ensures c.put_both.ensures.value;
+  so_far = put_on c.args.tail.now c.loop-index.index c.touched_plane.result c.loop-index.ids.items c.put_both.new.ids.items
+      c.loop-index-test.true c.loop-index.invariant.so_far c.touched_plane.ensures c.put_both.ensures.value;
   few = omega (arith, c.loop-index.invariant.few, c.put_both.ensures.longer);
 }
 
 pub returns : goal.returns
 returns c = λ t d latches k device is.
-    subst (λ xs. AreAllOf xs (λ id. commit_keeps t d id k)) (sym (put_end c.args.tail.now c.loop-index.index c.loop-index.ids.items c.loop-index-test.false c.loop-index.invariant.so_far))
+    subst (λ xs. AreAllOf xs (λ id. commit_keeps t d id k))
+    (sym (put_end c.args.tail.now c.loop-index.index c.loop-index.ids.items c.loop-index-test.false c.loop-index.invariant.so_far))
     (kept_all t d latches k c.args.tail.now device is)

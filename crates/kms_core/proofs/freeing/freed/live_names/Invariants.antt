@@ -10,4 +10,5 @@ use Rattle.kms_core.proofs.freeing.freed.live_names.Given as goal
 
 -- those so far do not show it
 abbrev pub invariant-loop-crtc : goal.invariant-loop-crtc
-invariant-loop-crtc l = (t : Topology) (d : DeviceState) → t.crtcs ≡ l.crtcs → StandsForDevice t d l.registers → (i : ℕ) → i < l.crtc → picture_names l.id (decoded_picture t d.live (object_id Crtc i)) ≡ false
+invariant-loop-crtc l = (t : Topology) (d : DeviceState) → t.crtcs ≡ l.crtcs → StandsForDevice t d l.registers → (i : ℕ) → i < l.crtc
+    → picture_names l.id (decoded_picture t d.live (object_id Crtc i)) ≡ false

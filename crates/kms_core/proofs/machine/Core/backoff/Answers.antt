@@ -1,5 +1,5 @@
 use Rattle.std.proofs.Common.{◌∙◌, ap, [], ◌∷◌, refl}
-use Rattle.kms_clients.specs.Standing.{ticket_in}
+use Rattle.kms_wwlock.specs.Standing.{ticket_in}
 use Rattle.kms_model.specs.declared.replies.Step.TheVariants as step
 use Rattle.kms_core.specs.Run.{machine}
 use Rattle.kms_core.proofs.calls.BackingOff.{client_of_context, is_found, must_place, backoff_goes_on, gains_step}

@@ -24,5 +24,10 @@ invariant_of-stores-2 c =
     begins (run_in c.stores.inside) c.args.self.now
     (stores_of c.stores.inside) c.args.client c.begin.new.self c.make_step_room.new.steps.items c.push.new.self.items
     c.stores.invariant.stands (c.stores.view_is ∙ c.deref_mut-stores.ensures.value ∙ c.self.view_is) c.requires
-    c.in_ok-make_step_room.ensures.items c.push.ensures.items (c.in_ok-ticket.ensures.stands (machine (run_in c.stores.inside)) c.stores.invariant.stands.stores.clients) in
-    record { stands = stands; spare = other_spared _ _ _ _ _ _ _ _ _ _ c.stores.invariant.stands stands c.in_ok-make_step_room.ensures.items c.push.ensures.items refl c.stores.invariant.spare c.in_ok-make_step_room.ensures.room c.push.ensures.room }
+    c.in_ok-make_step_room.ensures.items c.push.ensures.items
+    (c.in_ok-ticket.ensures.stands (machine (run_in c.stores.inside)) c.stores.invariant.stands.stores.clients) in
+    record {
+      stands = stands;
+      spare = other_spared _ _ _ _ _ _ _ _ _ _ c.stores.invariant.stands stands c.in_ok-make_step_room.ensures.items
+          c.push.ensures.items refl c.stores.invariant.spare c.in_ok-make_step_room.ensures.room c.push.ensures.room;
+    }

@@ -9,8 +9,8 @@ use Rattle.kms_core.specs.Insides.{run_in, stores_of}
 use Rattle.kms_core.proofs.stores.Spared.{own_room, own_spared, own_step, tail_spared}
 use Rattle.kms_core.proofs.machine.Core.flush.Goals as goal
 
-pub flushed-requires : goal.flushed-requires
-flushed-requires c = (flushes_next (run_in c.stores.inside) c.args.self.now
+pub mark_flushed-requires : goal.mark_flushed-requires
+mark_flushed-requires c = (flushes_next (run_in c.stores.inside) c.args.self.now
     (stores_of c.stores.inside) c.args.commit c.args.crtc c.stores.invariant.stands
     (c.stores.view_is ∙ c.deref_mut-stores.ensures.value ∙ c.self.view_is) c.requires).low
 
@@ -53,11 +53,15 @@ invariant_of-stores c =
     (flushes_next r c.args.self.now st c.args.commit c.args.crtc c.stores.invariant.stands
     (c.stores.view_is ∙ c.deref_mut-stores.ensures.value ∙ c.self.view_is) c.requires).is_legal in
     let stands =
-    flushes_on r c.args.self.now st c.args.commit c.args.crtc c.stores.inside.latches c.flush-none.new.self c.flushed.new.self r.steps
+    flushes_on r c.args.self.now st c.args.commit c.args.crtc c.stores.inside.latches c.flush-none.new.self c.mark_flushed.new.self r.steps
     c.push.new.self.items c.stores.invariant.stands (c.stores.view_is ∙ c.deref_mut-stores.ensures.value ∙ c.self.view_is) c.requires
-    refl c.push.ensures.items refl c.flushed.ensures c.flush-none.ensures.stands
+    refl c.push.ensures.items refl c.mark_flushed.ensures c.flush-none.ensures.stands
     (tells_none c.stores.inside.registers c.args.crtc (λ t d stand. c.if-is_on_in_shadow.ensures t d stand)) in
-    record { stands = stands; spare = own_spared r st _ step c.args.commit c.push.new.self.items _ _ _ c.stores.invariant.stands stands c.push.ensures.items own c.stores.invariant.spare c.push.ensures.room }
+    record {
+      stands = stands;
+      spare = own_spared r st _ step c.args.commit c.push.new.self.items _ _ _ c.stores.invariant.stands stands
+          c.push.ensures.items own c.stores.invariant.spare c.push.ensures.room;
+    }
 
 pub unwrap-picture-requires : goal.unwrap-picture-requires
 unwrap-picture-requires c = found_some c.flush.result (λ none.
@@ -78,8 +82,8 @@ pub latch-requires-clause-there : goal.latch-requires-clause-there
 latch-requires-clause-there c =
     rw c.latch_of-shown.ensures.shown
     (flush_latches (run_in c.stores.inside) c.args.self.now
-    (stores_of c.stores.inside) c.args.commit c.args.crtc c.latch_of-shown.result.count c.unwrap-picture.result c.flushed.new.self
-    c.stores.invariant.stands (c.stores.view_is ∙ c.deref_mut-stores.ensures.value ∙ c.self.view_is) c.requires c.flushed.ensures)
+    (stores_of c.stores.inside) c.args.commit c.args.crtc c.latch_of-shown.result.count c.unwrap-picture.result c.mark_flushed.new.self
+    c.stores.invariant.stands (c.stores.view_is ∙ c.deref_mut-stores.ensures.value ∙ c.self.view_is) c.requires c.mark_flushed.ensures)
 
 pub push-requires-2 : goal.push-requires-2
 push-requires-2 c =
@@ -97,14 +101,18 @@ live_layers-before-requires c =
     (c.stores.view_is ∙ c.deref_mut-stores.ensures.value ∙ c.self.view_is) c.requires).low
 
 pub shown_ids-ids_before-requires : goal.shown_ids-ids_before-requires
-shown_ids-ids_before-requires c = live_few (run_in c.stores.inside) (stores_of c.stores.inside) (object_id Crtc c.args.crtc) c.as_slice.result.now c.stores.invariant.stands (λ t d stand. c.as_slice.ensures ∙ c.live_layers-before.ensures t d stand)
+shown_ids-ids_before-requires c = live_few (run_in c.stores.inside) (stores_of c.stores.inside) (object_id Crtc c.args.crtc)
+    c.as_slice.result.now c.stores.invariant.stands (λ t d stand. c.as_slice.ensures ∙ c.live_layers-before.ensures t d stand)
 
 pub free-requires-clause-places : goal.free-requires-clause-places
 free-requires-clause-places c =
-    live_places (run_in c.stores.inside) (stores_of c.stores.inside) (object_id Crtc c.args.crtc) c.as_slice-2.result.now c.stores.invariant.stands
+    live_places (run_in c.stores.inside) (stores_of c.stores.inside) (object_id Crtc c.args.crtc) c.as_slice-2.result.now
+    c.stores.invariant.stands
     (flushes_next (run_in c.stores.inside) c.args.self.now (stores_of c.stores.inside) c.args.commit c.args.crtc c.stores.invariant.stands
     (c.stores.view_is ∙ c.deref_mut-stores.ensures.value ∙ c.self.view_is) c.requires).flush.is_crtc
-    (live_all (run_in c.stores.inside) (stores_of c.stores.inside) (object_id Crtc c.args.crtc) c.as_slice.result.now c.shown_ids-ids_before.result.items c.as_slice-2.result.now c.stores.invariant.stands c.shown_ids-ids_before.ensures (λ t d stand. c.as_slice.ensures ∙ c.live_layers-before.ensures t d stand) c.as_slice-2.ensures.value)
+    (live_all (run_in c.stores.inside) (stores_of c.stores.inside) (object_id Crtc c.args.crtc) c.as_slice.result.now
+    c.shown_ids-ids_before.result.items c.as_slice-2.result.now c.stores.invariant.stands c.shown_ids-ids_before.ensures
+    (λ t d stand. c.as_slice.ensures ∙ c.live_layers-before.ensures t d stand) c.as_slice-2.ensures.value)
 
 pub free-requires-clause-held : goal.free-requires-clause-held
 free-requires-clause-held c =
@@ -112,18 +120,22 @@ free-requires-clause-held c =
     (object_id Crtc c.args.crtc) c.as_slice-2.result.now c.stores.invariant.stands
     (flushes_next (run_in c.stores.inside) c.args.self.now (stores_of c.stores.inside) c.args.commit c.args.crtc c.stores.invariant.stands
     (c.stores.view_is ∙ c.deref_mut-stores.ensures.value ∙ c.self.view_is) c.requires).flush.is_crtc
-    (live_all (run_in c.stores.inside) (stores_of c.stores.inside) (object_id Crtc c.args.crtc) c.as_slice.result.now c.shown_ids-ids_before.result.items c.as_slice-2.result.now c.stores.invariant.stands c.shown_ids-ids_before.ensures (λ t d stand. c.as_slice.ensures ∙ c.live_layers-before.ensures t d stand) c.as_slice-2.ensures.value)
+    (live_all (run_in c.stores.inside) (stores_of c.stores.inside) (object_id Crtc c.args.crtc) c.as_slice.result.now
+    c.shown_ids-ids_before.result.items c.as_slice-2.result.now c.stores.invariant.stands c.shown_ids-ids_before.ensures
+    (λ t d stand. c.as_slice.ensures ∙ c.live_layers-before.ensures t d stand) c.as_slice-2.ensures.value)
 
 pub free-requires-clause-rising : goal.free-requires-clause-rising
 free-requires-clause-rising c =
     (live_all (run_in c.stores.inside) (stores_of c.stores.inside)
-    (object_id Crtc c.args.crtc) c.as_slice.result.now c.shown_ids-ids_before.result.items c.as_slice-2.result.now c.stores.invariant.stands c.shown_ids-ids_before.ensures (λ t d stand. c.as_slice.ensures ∙ c.live_layers-before.ensures t d stand) c.as_slice-2.ensures.value).rising
+    (object_id Crtc c.args.crtc) c.as_slice.result.now c.shown_ids-ids_before.result.items c.as_slice-2.result.now c.stores.invariant.stands
+    c.shown_ids-ids_before.ensures (λ t d stand. c.as_slice.ensures ∙ c.live_layers-before.ensures t d stand)
+    c.as_slice-2.ensures.value).rising
 
 pub free-requires-clause-few : goal.free-requires-clause-few
 free-requires-clause-few c =
     rw (c.latch.ensures.tracker, c.latch_of-shown.ensures.shown)
-    (few_flushed (run_in c.stores.inside) c.args.self.now (stores_of c.stores.inside) c.args.commit c.args.crtc c.flushed.new.self
-    c.stores.invariant.stands (c.stores.view_is ∙ c.deref_mut-stores.ensures.value ∙ c.self.view_is) c.requires c.flushed.ensures)
+    (few_flushed (run_in c.stores.inside) c.args.self.now (stores_of c.stores.inside) c.args.commit c.args.crtc c.mark_flushed.new.self
+    c.stores.invariant.stands (c.stores.view_is ∙ c.deref_mut-stores.ensures.value ∙ c.self.view_is) c.requires c.mark_flushed.ensures)
 
 pub invariant_of-stores-2 : goal.invariant_of-stores-2
 invariant_of-stores-2 c =
@@ -136,7 +148,7 @@ invariant_of-stores-2 c =
     (c.stores.view_is ∙ c.deref_mut-stores.ensures.value ∙ c.self.view_is) c.requires).is_legal in
     let stands =
     flushes_off r c.args.self.now st c.args.commit c.args.crtc c.latch_of-shown.result.count c.unwrap-picture.result c.flush.new.self
-    c.flushed.new.self c.latch.new.tracker c.latch.new.fences
+    c.mark_flushed.new.self c.latch.new.tracker c.latch.new.fences
     c.latch.new.queues.items c.push-2.new.self c.push.new.self.items c.stores.invariant.stands
     (c.stores.view_is ∙ c.deref_mut-stores.ensures.value ∙ c.self.view_is) c.requires c.push.ensures.items
     (record {
@@ -144,14 +156,17 @@ invariant_of-stores-2 c =
       tells = rw c.unwrap-picture.ensures at c.flush.ensures.picture;
       latched = rw c.unwrap-picture.ensures at c.flush.ensures.latched;
       counted = c.latch_of-shown.ensures.count;
-      marked_as = c.flushed.ensures;
+      marked_as = c.mark_flushed.ensures;
       told = rw shown at c.latch.ensures;
       recorded = rw shown at c.push-2.ensures.items;
     })
     c.as_slice-2.result.now c.free.new.freed c.free.new.things
-    (live_all r st (object_id Crtc c.args.crtc) c.as_slice.result.now c.shown_ids-ids_before.result.items c.as_slice-2.result.now c.stores.invariant.stands c.shown_ids-ids_before.ensures (λ t d stand. c.as_slice.ensures ∙ c.live_layers-before.ensures t d stand) c.as_slice-2.ensures.value)
+    (live_all r st (object_id Crtc c.args.crtc) c.as_slice.result.now c.shown_ids-ids_before.result.items c.as_slice-2.result.now
+    c.stores.invariant.stands c.shown_ids-ids_before.ensures (λ t d stand. c.as_slice.ensures ∙ c.live_layers-before.ensures t d stand)
+    c.as_slice-2.ensures.value)
     c.free.ensures in
     record {
       stands = stands;
-      spare = tail_spared r st _ step c.args.commit r.steps c.push.new.self.items _ _ _ _ c.stores.invariant.stands stands refl c.push.ensures.items own.within own.of c.stores.invariant.spare c.push.ensures.room c.push-2.ensures.room;
+      spare = tail_spared r st _ step c.args.commit r.steps c.push.new.self.items _ _ _ _ c.stores.invariant.stands stands refl
+          c.push.ensures.items own.within own.of c.stores.invariant.spare c.push.ensures.room c.push-2.ensures.room;
     }

@@ -8,7 +8,7 @@ use Rattle.kms_core.proofs.machine.Core.framebuffer.Goals as goal
 pub returns : goal.returns
 returns c =
     let r = run_in c.stores.inside in
-    c.stored.ensures
+    c.stored_framebuffer.ensures
     ∙ told_info r.script.topology (machine r) (stores_of c.stores.inside).made.fbs c.args.id c.stores.invariant.stands.stored
     ∙ ap (λ (w : Run). stored_framebuffer w.script.topology (machine w) c.args.id)
     (c.stores.view_is ∙ c.deref-stores.ensures ∙ c.self.view_is)

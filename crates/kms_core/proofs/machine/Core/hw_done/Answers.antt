@@ -27,4 +27,8 @@ invariant_of-stores c =
     ends_writing r c.args.self.now st k c.hw_done.new.self r.steps c.push.new.self.items c.stores.invariant.stands
     (c.stores.view_is ∙ c.deref_mut-stores.ensures.value ∙ c.self.view_is) c.requires
     refl c.push.ensures.items c.hw_done.ensures in
-    record { stands = stands; spare = own_spared r st _ (HwDone k) k c.push.new.self.items _ _ _ c.stores.invariant.stands stands c.push.ensures.items own c.stores.invariant.spare c.push.ensures.room }
+    record {
+      stands = stands;
+      spare = own_spared r st _ (HwDone k) k c.push.new.self.items _ _ _ c.stores.invariant.stands stands
+          c.push.ensures.items own c.stores.invariant.spare c.push.ensures.room;
+    }

@@ -14,9 +14,15 @@ lock-answer-requires-clause-taking c =
 pub invariant_of-stores-then-not-is_step : goal.invariant_of-stores-then-not-is_step
 invariant_of-stores-then-not-is_step c =
     let stands =
-    lock_stays (run_in c.stores.inside) (stores_of c.stores.inside) c.args.id c.in-Some.client c.lock-answer.result c.lock-answer.new.self c.make_step_room.new.steps.items c.stores.invariant.stands
-    (sym c.is_step.ensures ∙ c.if-not-is_step.true) c.in_ok-make_step_room.ensures.items (c.lock-answer.ensures.stands (machine (run_in c.stores.inside)) c.stores.invariant.stands.stores.clients) in
-    record { stands = stands; spare = still_spared _ _ _ _ _ _ c.in_ok-make_step_room.ensures.items c.stores.invariant.spare c.in_ok-make_step_room.ensures.kept (same_le _) }
+    lock_stays (run_in c.stores.inside) (stores_of c.stores.inside) c.args.id c.in-Some.client c.lock-answer.result c.lock-answer.new.self
+    c.make_step_room.new.steps.items c.stores.invariant.stands
+    (sym c.is_step.ensures ∙ c.if-not-is_step.true) c.in_ok-make_step_room.ensures.items
+    (c.lock-answer.ensures.stands (machine (run_in c.stores.inside)) c.stores.invariant.stands.stores.clients) in
+    record {
+      stands = stands;
+      spare = still_spared _ _ _ _ _ _ c.in_ok-make_step_room.ensures.items c.stores.invariant.spare
+          c.in_ok-make_step_room.ensures.kept (same_le _);
+    }
 
 pub returns-then-not-is_step-clause-answer : goal.returns-then-not-is_step-clause-answer
 returns-then-not-is_step-clause-answer c = λ client taking.
@@ -29,19 +35,28 @@ returns-then-not-is_step-clause-answer c = λ client taking.
     (c.stores.view_is ∙ c.deref_mut-stores.ensures.value ∙ c.self.view_is) c.requires c.in-Some.ensures.some)
     (locks_of r c.args.self.now st c.args.t c.args.id c.in-Some.client c.stores.invariant.stands
     (c.stores.view_is ∙ c.deref_mut-stores.ensures.value ∙ c.self.view_is) c.requires c.in-Some.ensures.some)
-    (sym c.present_state.ensures ∙ c.in-Some-present_state.is) (c.lock-answer.ensures.answer (machine r) c.stores.invariant.stands.stores.clients) client taking
+    (sym c.present_state.ensures ∙ c.in-Some-present_state.is)
+    (c.lock-answer.ensures.answer (machine r) c.stores.invariant.stands.stores.clients) client taking
 
 pub invariant_of-stores-2 : goal.invariant_of-stores-2
 invariant_of-stores-2 c =
     let r = run_in c.stores.inside in
     let st = stores_of c.stores.inside in
     let stands =
-    lock_goes_on r st c.args.id c.in-Some.client c.lock-answer.result c.lock-answer.new.self c.make_step_room.new.steps.items c.push.new.self.items c.stores.invariant.stands
+    lock_goes_on r st c.args.id c.in-Some.client c.lock-answer.result c.lock-answer.new.self c.make_step_room.new.steps.items
+    c.push.new.self.items c.stores.invariant.stands
     (locks_of r c.args.self.now st c.args.t c.args.id c.in-Some.client c.stores.invariant.stands
     (c.stores.view_is ∙ c.deref_mut-stores.ensures.value ∙ c.self.view_is) c.requires c.in-Some.ensures.some)
-    (c.lock-answer.ensures.answer (machine r) c.stores.invariant.stands.stores.clients) (sym c.is_step.ensures ∙ c.if-not-is_step.false) c.in_ok-make_step_room.ensures.items (c.push.ensures.items ∙ ap (λ (x : Step). c.make_step_room.new.steps.items ++ x ∷ []) c.lock_step.ensures)
+    (c.lock-answer.ensures.answer (machine r) c.stores.invariant.stands.stores.clients) (sym c.is_step.ensures ∙ c.if-not-is_step.false)
+    c.in_ok-make_step_room.ensures.items (c.push.ensures.items ∙ ap (λ (x : Step). c.make_step_room.new.steps.items ++ x ∷ [])
+    c.lock_step.ensures)
     (c.lock-answer.ensures.stands (machine r) c.stores.invariant.stands.stores.clients) in
-    record { stands = stands; spare = other_spared _ _ _ _ _ _ _ _ _ _ c.stores.invariant.stands stands c.in_ok-make_step_room.ensures.items (c.push.ensures.items ∙ ap (λ (x : Step). c.make_step_room.new.steps.items ++ x ∷ []) c.lock_step.ensures) refl c.stores.invariant.spare c.in_ok-make_step_room.ensures.room c.push.ensures.room }
+    record {
+      stands = stands;
+      spare = other_spared _ _ _ _ _ _ _ _ _ _ c.stores.invariant.stands stands c.in_ok-make_step_room.ensures.items
+          (c.push.ensures.items ∙ ap (λ (x : Step). c.make_step_room.new.steps.items ++ x ∷ []) c.lock_step.ensures) refl
+          c.stores.invariant.spare c.in_ok-make_step_room.ensures.room c.push.ensures.room;
+    }
 
 pub returns-clause-answer : goal.returns-clause-answer
 returns-clause-answer c = λ client taking.
@@ -54,7 +69,8 @@ returns-clause-answer c = λ client taking.
     (c.stores.view_is ∙ c.deref_mut-stores.ensures.value ∙ c.self.view_is) c.requires c.in-Some.ensures.some)
     (locks_of r c.args.self.now st c.args.t c.args.id c.in-Some.client c.stores.invariant.stands
     (c.stores.view_is ∙ c.deref_mut-stores.ensures.value ∙ c.self.view_is) c.requires c.in-Some.ensures.some)
-    (sym c.present_state.ensures ∙ c.in-Some-present_state.is) (c.lock-answer.ensures.answer (machine r) c.stores.invariant.stands.stores.clients) client taking
+    (sym c.present_state.ensures ∙ c.in-Some-present_state.is)
+    (c.lock-answer.ensures.answer (machine r) c.stores.invariant.stands.stores.clients) client taking
 
 pub returns-clause-history : goal.returns-clause-history
 returns-clause-history c = λ client taking.
@@ -66,4 +82,5 @@ returns-clause-history c = λ client taking.
     (asks r c.args.self.now st c.args.t c.args.id c.in-Some.client c.stores.invariant.stands
     (c.stores.view_is ∙ c.deref_mut-stores.ensures.value ∙ c.self.view_is) c.requires c.in-Some.ensures.some) c.answer_with_state-2.ensures
     (sym c.is_step.ensures ∙ c.if-not-is_step.false)
-    c.in_ok-make_step_room.ensures.items (c.push.ensures.items ∙ ap (λ (x : Step). c.make_step_room.new.steps.items ++ x ∷ []) c.lock_step.ensures) client taking
+    c.in_ok-make_step_room.ensures.items (c.push.ensures.items ∙ ap (λ (x : Step). c.make_step_room.new.steps.items ++ x ∷ [])
+    c.lock_step.ensures) client taking

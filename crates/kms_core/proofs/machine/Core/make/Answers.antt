@@ -4,7 +4,8 @@ use Rattle.kms_model.specs.declared.runs.Place.{Place}
 use Rattle.kms_model.specs.Machine.Steps.{is_making}
 use Rattle.kms_laws.proofs.Steps.{not_atomic}
 use Rattle.kms_core.specs.Run.{machine}
-use Rattle.kms_core.proofs.calls.Executed.{has_ids, idle_maker, is_found, makes, never_absent, no_request, place_for, stored_for, tells_reply}
+use Rattle.kms_core.proofs.calls.Executed.{has_ids, idle_maker, is_found, makes, never_absent, no_request, place_for, stored_for}
+use Rattle.kms_core.proofs.calls.Executed.{tells_reply}
 use Rattle.kms_core.proofs.stores.Found.{found_some}
 use Rattle.kms_core.proofs.stores.WithRoom.{stands_with_room}
 use Rattle.kms_core.proofs.stores.Seeking.{few_tails}
@@ -47,9 +48,15 @@ execute-requires-clause-other c = no_request c.unwrap-command.result.now
 pub invariant_of-stores-in-Break-branch-4 : goal.invariant_of-stores-in-Break-branch-4
 invariant_of-stores-in-Break-branch-4 c =
     let stands =
-    stands_with_room (run_in c.stores.inside) (stores_of c.stores.inside) c.make_room.new.journal c.make_room.new.replies c.execute.new.self c.make_room-2.new.self c.make_room.new.steps.items c.stores.invariant.stands
-    c.in_ok-make_room.ensures.steps c.in_ok-make_room.ensures.journal c.in_ok-make_room.ensures.replies c.in_err-reply.ensures.unchanged c.in_ok-make_room-2.ensures.fences c.make_room-3.new.self c.in_ok-make_room-3.ensures.items c.in_ok-make_room-3.ensures.places in
-    record { stands = stands; spare = still_spared _ _ _ _ _ _ c.in_ok-make_room.ensures.steps c.stores.invariant.spare c.in_ok-make_room.ensures.steps_kept (same_le _) }
+    stands_with_room (run_in c.stores.inside) (stores_of c.stores.inside) c.make_room.new.journal c.make_room.new.replies c.execute.new.self
+    c.make_room-2.new.self c.make_room.new.steps.items c.stores.invariant.stands
+    c.in_ok-make_room.ensures.steps c.in_ok-make_room.ensures.journal c.in_ok-make_room.ensures.replies c.in_err-reply.ensures.unchanged
+    c.in_ok-make_room-2.ensures.fences c.make_room-3.new.self c.in_ok-make_room-3.ensures.items c.in_ok-make_room-3.ensures.places in
+    record {
+      stands = stands;
+      spare = still_spared _ _ _ _ _ _ c.in_ok-make_room.ensures.steps c.stores.invariant.spare
+          c.in_ok-make_room.ensures.steps_kept (same_le _);
+    }
 
 pub go_on-requires : goal.go_on-requires
 go_on-requires c =
@@ -112,9 +119,15 @@ invariant_of-stores-2 c =
       executed_as = λ t w. c.in_ok-reply.ensures.executed t w;
       fences_now = c.make_fence.ensures ∙ rw (c.next_id-id.ensures, c.in_ok-make_room-2.ensures.fences) refl;
       clients_stand = c.go_on.ensures (machine (run_in c.stores.inside)) c.stores.invariant.stands.stores.clients;
-      replies_more = c.answer.ensures ∙ rw (c.in_ok-make_room.ensures.replies, c.in_ok-make_room.ensures.journal, c.place-number.ensures) refl;
+      replies_more = c.answer.ensures ∙ rw (c.in_ok-make_room.ensures.replies, c.in_ok-make_room.ensures.journal, c.place-number.ensures)
+          refl;
       journal_more = c.join.ensures ∙ rw (c.in_ok-make_room.ensures.journal, c.place-number.ensures) refl;
     })
     c.in_ok-reply.ensures.counted c.in_ok-make_room.ensures.steps c.push.ensures.items
-    c.make_room-3.new.self c.account.new.freed c.account.new.things c.in_ok-make_room-3.ensures.items c.in_ok-make_room-3.ensures.places c.account.ensures in
-    record { stands = stands; spare = other_spared _ _ _ _ _ _ _ _ _ _ c.stores.invariant.stands stands c.in_ok-make_room.ensures.steps c.push.ensures.items refl c.stores.invariant.spare c.in_ok-make_room.ensures.steps_room c.push.ensures.room }
+    c.make_room-3.new.self c.account.new.freed c.account.new.things c.in_ok-make_room-3.ensures.items c.in_ok-make_room-3.ensures.places
+    c.account.ensures in
+    record {
+      stands = stands;
+      spare = other_spared _ _ _ _ _ _ _ _ _ _ c.stores.invariant.stands stands c.in_ok-make_room.ensures.steps
+          c.push.ensures.items refl c.stores.invariant.spare c.in_ok-make_room.ensures.steps_room c.push.ensures.room;
+    }

@@ -55,4 +55,8 @@ invariant_of-stores-2 c =
           (c.stores.view_is ∙ c.deref_mut-stores.ensures.value ∙ c.self.view_is) c.requires c.index_mut.ensures.value));
     })
     c.in_ok-make_room.ensures.steps c.push.ensures.items in
-    record { stands = stands; spare = other_spared _ _ _ _ _ _ _ _ _ _ c.stores.invariant.stands stands c.in_ok-make_room.ensures.steps c.push.ensures.items refl c.stores.invariant.spare c.in_ok-make_room.ensures.steps_room c.push.ensures.room }
+    record {
+      stands = stands;
+      spare = other_spared _ _ _ _ _ _ _ _ _ _ c.stores.invariant.stands stands c.in_ok-make_room.ensures.steps
+          c.push.ensures.items refl c.stores.invariant.spare c.in_ok-make_room.ensures.steps_room c.push.ensures.room;
+    }

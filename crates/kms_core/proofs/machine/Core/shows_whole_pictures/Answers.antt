@@ -14,7 +14,9 @@ has_crtc t device =
     omega (arith, low)
 
 pub returns-clause-live : goal.returns-clause-live
-returns-clause-live c = λ crtc low. (c.pictures_are_whole.ensures c.args.self.now.script c.args.self.now.steps c.is_a_history.ensures.formed c.is_a_history.ensures.history crtc low).0
+returns-clause-live c = λ crtc low. (c.pictures_are_whole.ensures c.args.self.now.script c.args.self.now.steps c.is_a_history.ensures.formed
+    c.is_a_history.ensures.history crtc low).0
 
 pub returns-clause-latched : goal.returns-clause-latched
-returns-clause-latched c = (c.pictures_are_whole.ensures c.args.self.now.script c.args.self.now.steps c.is_a_history.ensures.formed c.is_a_history.ensures.history 0 (has_crtc c.args.self.now.script.topology c.is_a_history.ensures.formed.device)).1
+returns-clause-latched c = (c.pictures_are_whole.ensures c.args.self.now.script c.args.self.now.steps c.is_a_history.ensures.formed
+    c.is_a_history.ensures.history 0 (has_crtc c.args.self.now.script.topology c.is_a_history.ensures.formed.device)).1

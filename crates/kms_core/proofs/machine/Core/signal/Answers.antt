@@ -67,4 +67,8 @@ invariant_of-stores-2 c =
       replies_more = c.answer.ensures ∙ rw (c.in_ok-make_room.ensures.replies, c.place-number.ensures) refl;
     })
     c.in_ok-make_room.ensures.steps c.push.ensures.items in
-    record { stands = stands; spare = other_spared _ _ _ _ _ _ _ _ _ _ c.stores.invariant.stands stands c.in_ok-make_room.ensures.steps c.push.ensures.items refl c.stores.invariant.spare c.in_ok-make_room.ensures.steps_room c.push.ensures.room }
+    record {
+      stands = stands;
+      spare = other_spared _ _ _ _ _ _ _ _ _ _ c.stores.invariant.stands stands c.in_ok-make_room.ensures.steps
+          c.push.ensures.items refl c.stores.invariant.spare c.in_ok-make_room.ensures.steps_room c.push.ensures.room;
+    }

@@ -10,4 +10,8 @@ invariant_of-stores-2 c =
     stalls (run_in c.stores.inside) c.args.self.now (stores_of c.stores.inside) c.make_step_room.new.steps.items c.push.new.self.items
     c.stores.invariant.stands (c.stores.view_is ∙ c.deref_mut-stores.ensures.value ∙ c.self.view_is) c.requires
     c.in_ok-make_step_room.ensures.items c.push.ensures.items in
-    record { stands = stands; spare = other_spared _ _ _ _ _ _ _ _ _ _ c.stores.invariant.stands stands c.in_ok-make_step_room.ensures.items c.push.ensures.items refl c.stores.invariant.spare c.in_ok-make_step_room.ensures.room c.push.ensures.room }
+    record {
+      stands = stands;
+      spare = other_spared _ _ _ _ _ _ _ _ _ _ c.stores.invariant.stands stands c.in_ok-make_step_room.ensures.items
+          c.push.ensures.items refl c.stores.invariant.spare c.in_ok-make_step_room.ensures.room c.push.ensures.room;
+    }

@@ -62,7 +62,8 @@ returns-clause-answer c = (
 
 pub returns-clause-history : goal.returns-clause-history
 returns-clause-history c =
-    gained_as (run_in c.stores.inside) c.deref_mut-stores.result.now c.refuse_or_put_off.new.stores c.commit.new.stores (stores_of c.stores.inside)
+    gained_as (run_in c.stores.inside) c.deref_mut-stores.result.now c.refuse_or_put_off.new.stores c.commit.new.stores
+    (stores_of c.stores.inside)
     c.args.t.0 c.taker-client.result _ c.stores.invariant.stands c.stores.view_is
     c.taker-client.ensures (sym c.in_default-2.is) c.in_ok-decided.ensures.history c.in_ok-commit.ensures.history
     ∙ ap (λ (w : Run). gains w (step.Swap (taker (machine w) c.args.t.0) ∷ [])) (c.deref_mut-stores.ensures.value ∙ c.self.view_is)

@@ -3,7 +3,8 @@ use Rattle.std.proofs.lemmas.Bool.{false≢true}
 use Rattle.kms_model.specs.declared.objects.Kind.TheVariants.{Crtc}
 use Rattle.kms_model.specs.declared.replies.Step.TheVariants.{Vblank}
 use Rattle.kms_model.specs.Device.Objects.{object_id}
-use Rattle.kms_core.proofs.tails.Blanking.{blank_latches, blanks_crtc, blanks_for, blanks_legal, blanks_low, blanks_with, blanks_without, count_fits, few_blanked, goes_is, has_picture}
+use Rattle.kms_core.proofs.tails.Blanking.{blank_latches, blanks_crtc, blanks_for, blanks_legal, blanks_low, blanks_with, blanks_without}
+use Rattle.kms_core.proofs.tails.Blanking.{count_fits, few_blanked, goes_is, has_picture}
 use Rattle.kms_core.proofs.stores.Found.{found_some}
 use Rattle.kms_core.proofs.stores.FreedCalls.{live_all, live_few, live_held, live_places}
 use Rattle.kms_core.specs.Insides.{run_in, stores_of}
@@ -29,7 +30,8 @@ vblank-none-requires-clause-crtc c = blanks_low (run_in c.stores.inside) c.args.
 
 pub vblank-none-requires-clause-count : goal.vblank-none-requires-clause-count
 vblank-none-requires-clause-count c =
-    count_fits (run_in c.stores.inside) (stores_of c.stores.inside) c.args.crtc (Vblank Crtc c.args.crtc) c.make_step_room.new.steps.items c.push.new.self.items c.stores.invariant.stands c.in_ok-make_step_room.ensures.items c.push.ensures.items c.push.ensures.fits
+    count_fits (run_in c.stores.inside) (stores_of c.stores.inside) c.args.crtc (Vblank Crtc c.args.crtc) c.make_step_room.new.steps.items
+    c.push.new.self.items c.stores.invariant.stands c.in_ok-make_step_room.ensures.items c.push.ensures.items c.push.ensures.fits
 
 pub invariant_of-stores-in_default : goal.invariant_of-stores-in_default
 invariant_of-stores-in_default c =
@@ -39,7 +41,12 @@ invariant_of-stores-in_default c =
     blanks_without r c.args.self.now st c.args.crtc c.stores.inside.latches c.vblank-none.new.self c.make_step_room.new.steps.items
     c.push.new.self.items c.stores.invariant.stands (c.stores.view_is ∙ c.deref_mut-stores.ensures.value ∙ c.self.view_is) c.requires
     c.in_ok-make_step_room.ensures.items c.push.ensures.items refl c.vblank-none.ensures.stands c.in_default.is in
-    record { stands = stands; spare = other_spared r st _ (Vblank Crtc c.args.crtc) c.make_step_room.new.steps.items c.push.new.self.items _ _ _ _ c.stores.invariant.stands stands c.in_ok-make_step_room.ensures.items c.push.ensures.items refl c.stores.invariant.spare c.in_ok-make_step_room.ensures.room c.push.ensures.room }
+    record {
+      stands = stands;
+      spare = other_spared r st _ (Vblank Crtc c.args.crtc) c.make_step_room.new.steps.items c.push.new.self.items _
+          _ _ _ c.stores.invariant.stands stands c.in_ok-make_step_room.ensures.items c.push.ensures.items refl c.stores.invariant.spare
+          c.in_ok-make_step_room.ensures.room c.push.ensures.room;
+    }
 
 pub returns-in_default-clause-answer : goal.returns-in_default-clause-answer
 returns-in_default-clause-answer c =
@@ -60,7 +67,8 @@ push-requires-2 c =
 
 pub vblank-requires-clause-count : goal.vblank-requires-clause-count
 vblank-requires-clause-count c =
-    count_fits (run_in c.stores.inside) (stores_of c.stores.inside) c.args.crtc (Vblank Crtc c.args.crtc) c.stores.inside.steps.items c.push-2.new.self.items c.stores.invariant.stands refl c.push-2.ensures.items c.push-2.ensures.fits
+    count_fits (run_in c.stores.inside) (stores_of c.stores.inside) c.args.crtc (Vblank Crtc c.args.crtc) c.stores.inside.steps.items
+    c.push-2.new.self.items c.stores.invariant.stands refl c.push-2.ensures.items c.push-2.ensures.fits
 
 pub unwrap-picture-requires : goal.unwrap-picture-requires
 unwrap-picture-requires c = found_some c.vblank.result (λ none.
@@ -104,7 +112,8 @@ live_layers-before-requires c = blanks_low (run_in c.stores.inside) c.args.self.
     (c.stores.view_is ∙ c.deref_mut-stores.ensures.value ∙ c.self.view_is) c.requires
 
 pub shown_ids-ids_before-requires : goal.shown_ids-ids_before-requires
-shown_ids-ids_before-requires c = live_few (run_in c.stores.inside) (stores_of c.stores.inside) (object_id Crtc c.args.crtc) c.as_slice.result.now c.stores.invariant.stands (λ t d stand. c.as_slice.ensures ∙ c.live_layers-before.ensures t d stand)
+shown_ids-ids_before-requires c = live_few (run_in c.stores.inside) (stores_of c.stores.inside) (object_id Crtc c.args.crtc)
+    c.as_slice.result.now c.stores.invariant.stands (λ t d stand. c.as_slice.ensures ∙ c.live_layers-before.ensures t d stand)
 
 pub free-requires-clause-places : goal.free-requires-clause-places
 free-requires-clause-places c =
@@ -113,7 +122,9 @@ free-requires-clause-places c =
     live_places r st (object_id Crtc c.args.crtc) c.as_slice-2.result.now c.stores.invariant.stands
     (blanks_crtc r c.args.self.now st c.in-Some.commit c.args.crtc c.stores.invariant.stands
     (c.stores.view_is ∙ c.deref_mut-stores.ensures.value ∙ c.self.view_is) c.requires c.in-Some.is)
-    (live_all r st (object_id Crtc c.args.crtc) c.as_slice.result.now c.shown_ids-ids_before.result.items c.as_slice-2.result.now c.stores.invariant.stands c.shown_ids-ids_before.ensures (λ t d stand. c.as_slice.ensures ∙ c.live_layers-before.ensures t d stand) c.as_slice-2.ensures.value)
+    (live_all r st (object_id Crtc c.args.crtc) c.as_slice.result.now c.shown_ids-ids_before.result.items c.as_slice-2.result.now
+    c.stores.invariant.stands c.shown_ids-ids_before.ensures (λ t d stand. c.as_slice.ensures ∙ c.live_layers-before.ensures t d stand)
+    c.as_slice-2.ensures.value)
 
 pub free-requires-clause-held : goal.free-requires-clause-held
 free-requires-clause-held c =
@@ -122,13 +133,17 @@ free-requires-clause-held c =
     live_held r st (object_id Crtc c.args.crtc) c.as_slice-2.result.now c.stores.invariant.stands
     (blanks_crtc r c.args.self.now st c.in-Some.commit c.args.crtc c.stores.invariant.stands
     (c.stores.view_is ∙ c.deref_mut-stores.ensures.value ∙ c.self.view_is) c.requires c.in-Some.is)
-    (live_all r st (object_id Crtc c.args.crtc) c.as_slice.result.now c.shown_ids-ids_before.result.items c.as_slice-2.result.now c.stores.invariant.stands c.shown_ids-ids_before.ensures (λ t d stand. c.as_slice.ensures ∙ c.live_layers-before.ensures t d stand) c.as_slice-2.ensures.value)
+    (live_all r st (object_id Crtc c.args.crtc) c.as_slice.result.now c.shown_ids-ids_before.result.items c.as_slice-2.result.now
+    c.stores.invariant.stands c.shown_ids-ids_before.ensures (λ t d stand. c.as_slice.ensures ∙ c.live_layers-before.ensures t d stand)
+    c.as_slice-2.ensures.value)
 
 pub free-requires-clause-rising : goal.free-requires-clause-rising
 free-requires-clause-rising c =
     let r = run_in c.stores.inside in
     let st = stores_of c.stores.inside in
-    (live_all r st (object_id Crtc c.args.crtc) c.as_slice.result.now c.shown_ids-ids_before.result.items c.as_slice-2.result.now c.stores.invariant.stands c.shown_ids-ids_before.ensures (λ t d stand. c.as_slice.ensures ∙ c.live_layers-before.ensures t d stand) c.as_slice-2.ensures.value).rising
+    (live_all r st (object_id Crtc c.args.crtc) c.as_slice.result.now c.shown_ids-ids_before.result.items c.as_slice-2.result.now
+    c.stores.invariant.stands c.shown_ids-ids_before.ensures (λ t d stand. c.as_slice.ensures ∙ c.live_layers-before.ensures t d stand)
+    c.as_slice-2.ensures.value).rising
 
 pub free-requires-clause-few : goal.free-requires-clause-few
 free-requires-clause-few c =
@@ -158,9 +173,12 @@ invariant_of-stores-2 c =
       recorded = rw shown at c.push-3.ensures.items;
     })
     c.as_slice-2.result.now c.free.new.freed c.free.new.things
-    (live_all r st (object_id Crtc c.args.crtc) c.as_slice.result.now c.shown_ids-ids_before.result.items c.as_slice-2.result.now c.stores.invariant.stands c.shown_ids-ids_before.ensures (λ t d stand. c.as_slice.ensures ∙ c.live_layers-before.ensures t d stand) c.as_slice-2.ensures.value)
+    (live_all r st (object_id Crtc c.args.crtc) c.as_slice.result.now c.shown_ids-ids_before.result.items c.as_slice-2.result.now
+    c.stores.invariant.stands c.shown_ids-ids_before.ensures (λ t d stand. c.as_slice.ensures ∙ c.live_layers-before.ensures t d stand)
+    c.as_slice-2.ensures.value)
     c.free.ensures in
     record {
       stands = stands;
-      spare = tail_spared r st _ step c.in-Some.commit r.steps c.push-2.new.self.items _ _ _ _ c.stores.invariant.stands stands refl c.push-2.ensures.items B.within B.go c.stores.invariant.spare c.push-2.ensures.room c.push-3.ensures.room;
+      spare = tail_spared r st _ step c.in-Some.commit r.steps c.push-2.new.self.items _ _ _ _ c.stores.invariant.stands stands refl
+          c.push-2.ensures.items B.within B.go c.stores.invariant.spare c.push-2.ensures.room c.push-3.ensures.room;
     }

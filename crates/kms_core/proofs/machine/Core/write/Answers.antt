@@ -16,8 +16,8 @@ write_registers-requires c = holds_old (run_in c.stores.inside) c.args.self.now
     (stores_of c.stores.inside) c.args.commit c.args.id c.in-Some.tail.now c.stores.invariant.stands
     (c.stores.view_is ∙ c.deref_mut-stores.ensures.value ∙ c.self.view_is) c.requires c.in-Some.ensures
 
-pub wrote-requires : goal.wrote-requires
-wrote-requires c = has_registers (run_in c.stores.inside) c.args.self.now
+pub mark_written-requires : goal.mark_written-requires
+mark_written-requires c = has_registers (run_in c.stores.inside) c.args.self.now
     (stores_of c.stores.inside) c.args.commit c.args.id c.stores.invariant.stands
     (c.stores.view_is ∙ c.deref_mut-stores.ensures.value ∙ c.self.view_is) c.requires
 
@@ -41,10 +41,14 @@ invariant_of-stores c =
     (c.stores.view_is ∙ c.deref_mut-stores.ensures.value ∙ c.self.view_is) c.requires).is_legal in
     let more = c.push.ensures.items ∙ ap (λ (x : Step). r.steps ++ x ∷ []) c.write_step.ensures in
     let stands =
-    writes_object r c.args.self.now st k c.args.id c.in-Some.tail.now c.write_registers.new.registers c.wrote.new.self
+    writes_object r c.args.self.now st k c.args.id c.in-Some.tail.now c.write_registers.new.registers c.mark_written.new.self
     r.steps c.push.new.self.items
     c.stores.invariant.stands (c.stores.view_is ∙ c.deref_mut-stores.ensures.value ∙ c.self.view_is) c.requires c.in-Some.ensures refl more
     c.write_registers.ensures
     (has_registers r c.args.self.now st k c.args.id c.stores.invariant.stands
-    (c.stores.view_is ∙ c.deref_mut-stores.ensures.value ∙ c.self.view_is) c.requires) c.wrote.ensures in
-    record { stands = stands; spare = own_spared r st _ (write_step k c.args.id) k c.push.new.self.items _ _ _ c.stores.invariant.stands stands more own c.stores.invariant.spare c.push.ensures.room }
+    (c.stores.view_is ∙ c.deref_mut-stores.ensures.value ∙ c.self.view_is) c.requires) c.mark_written.ensures in
+    record {
+      stands = stands;
+      spare = own_spared r st _ (write_step k c.args.id) k c.push.new.self.items _ _ _ c.stores.invariant.stands
+          stands more own c.stores.invariant.spare c.push.ensures.room;
+    }

@@ -9,6 +9,8 @@ loop-place-init c = λ m stand. all_first (held_at m c.args.client c.args.object
 pub loop-place-preserved : goal.loop-place-preserved
 loop-place-preserved c = λ m stand.
     elim c.if-held.branch [
-      | then-held w ↦ (rw w.held-is (one_more (held_at m c.args.client c.args.objects.now) c.loop-place.place c.loop-place.held w.holds_at-held.result (c.loop-place.invariant m stand) w.if-held.true (w.holds_at-held.ensures m stand)))
-      | else-held w ↦ (no_more (held_at m c.args.client c.args.objects.now) c.loop-place.place c.loop-place.held c.if-held.held (c.loop-place.invariant m stand) w.if-held.false w.held-is)
+      | then-held w ↦ (rw w.held-is (one_more (held_at m c.args.client c.args.objects.now) c.loop-place.place c.loop-place.held
+          w.holds_at-held.result (c.loop-place.invariant m stand) w.if-held.true (w.holds_at-held.ensures m stand)))
+      | else-held w ↦ (no_more (held_at m c.args.client c.args.objects.now) c.loop-place.place c.loop-place.held c.if-held.held
+          (c.loop-place.invariant m stand) w.if-held.false w.held-is)
     ]

@@ -1,6 +1,6 @@
 use Rattle.std.proofs.Common.{◌≡◌}
 use Rattle.kms_model.specs.Machine.State.{Machine}
-use Rattle.kms_clients.specs.InStep.{AreClientsOf}
+use Rattle.kms_wwlock.specs.InStep.{AreClientsOf}
 use Rattle.kms_track.specs.Places.{all_below}
 use Rattle.kms_core.specs.Decisions.{held_at}
 use Rattle.kms_core.proofs.next.judging.holds_all.Given as goal

@@ -32,15 +32,23 @@ pub full_check-requires : goal.full_check-requires
 full_check-requires c =
     let r = run_in c.stores.inside in
     let st = stores_of c.stores.inside in
-    let none = early_none r st c.args.request.now c.early.result c.stores.invariant.stands c.early.ensures.first (sym c.is_some.ensures ∙ c.if-is_some.false) in
-    record { world = world r; between = c.changed-after.ensures.between (world r) (presented r st c.stores.invariant.stands) (tells_now r st c.stores.invariant.stands) none }
+    let none = early_none r st c.args.request.now c.early.result c.stores.invariant.stands c.early.ensures.first
+    (sym c.is_some.ensures ∙ c.if-is_some.false) in
+    record {
+      world = world r;
+      between = c.changed-after.ensures.between (world r) (presented r st c.stores.invariant.stands)
+          (tells_now r st c.stores.invariant.stands) none;
+    }
 
 pub returns : goal.returns
 returns c =
     let r = run_in c.stores.inside in
     let st = stores_of c.stores.inside in
-    let none : early_in r.script.topology (world r) c.args.request.now ≡ None = early_none r st c.args.request.now c.early.result c.stores.invariant.stands c.early.ensures.first (sym c.is_some.ensures ∙ c.if-is_some.false) in
-    let stand : StandBetween r.script.topology (world r) c.args.request.now c.changed-after.result = c.changed-after.ensures.between (world r) (presented r st c.stores.invariant.stands) (tells_now r st c.stores.invariant.stands) none in
+    let none : early_in r.script.topology (world r) c.args.request.now
+    ≡ None = early_none r st c.args.request.now c.early.result c.stores.invariant.stands c.early.ensures.first
+    (sym c.is_some.ensures ∙ c.if-is_some.false) in
+    let stand : StandBetween r.script.topology (world r) c.args.request.now c.changed-after.result = c.changed-after.ensures.between
+    (world r) (presented r st c.stores.invariant.stands) (tells_now r st c.stores.invariant.stands) none in
     let takes = takes_at r c.args.core.now c.args.client c.args.request.now (c.stores.view_is ∙ c.deref-stores.ensures ∙ c.core.view_is)
     c.requires in
     judged_late r c.args.core.now st c.args.client c.args.request.now _ c.stores.invariant.stands
@@ -54,10 +62,12 @@ returns c =
       none = none;
       named_is = c.spans-named.ensures.named r.script.topology (world r) stand;
       touched_is = c.spans-named.ensures.touched r.script.topology (world r) stand;
-      queue_is = queue_at r st c.args.client c.args.request.now c.index-queue.result.now takes.at c.stores.invariant.stands c.index-queue.ensures;
+      queue_is = queue_at r st c.args.client c.args.request.now c.index-queue.result.now takes.at c.stores.invariant.stands
+          c.index-queue.ensures;
       refusal_is = c.full_check.ensures (world r) stand;
       holds = c.holds_all.ensures (machine r) c.stores.invariant.stands.stores.clients;
       late = refl;
       hindered = c.late_reply.ensures;
-      ready = none_told c.is_none.result c.not_yet.result (not_yet_of c.stores.inside.tracker c.spans-named.result.0) (sym c.is_none.ensures) c.not_yet.ensures;
+      ready = none_told c.is_none.result c.not_yet.result (not_yet_of c.stores.inside.tracker c.spans-named.result.0)
+          (sym c.is_none.ensures) c.not_yet.ensures;
     })

@@ -27,7 +27,9 @@ is_free_or_older-requires-clause-client c =
 
 pub is_free_or_older-requires-clause-lockable : goal.is_free_or_older-requires-clause-lockable
 is_free_or_older-requires-clause-lockable c =
-    lockable_of c.stores.inside.script.topology c.args.kind c.args.index c.of.result (few_objects c.stores.inside.script.topology c.stores.invariant.stands.formed.device) c.of.ensures (sym c.is_lockable.ensures ∙ c.if-not-is_lockable.false)
+    lockable_of c.stores.inside.script.topology c.args.kind c.args.index c.of.result
+    (few_objects c.stores.inside.script.topology c.stores.invariant.stands.formed.device) c.of.ensures
+    (sym c.is_lockable.ensures ∙ c.if-not-is_lockable.false)
 
 pub returns-then-is_member : goal.returns-then-is_member
 returns-then-is_member c =
@@ -37,7 +39,8 @@ returns-then-is_member c =
     lock_found r c.args.core.now c.args.client c.args.kind c.args.index c.in-Some.request.now true c.is_free_or_older.result c.of.result
     (c.stores.view_is ∙ c.deref-stores.ensures ∙ c.core.view_is) c.in-Some.ensures on
     (sym c.if-is_member.true ∙ c.is_member.ensures
-    ∙ c.reach-reached.ensures.each (world r) c.args.kind c.args.index (presented r st c.stores.invariant.stands) (tells_ever r st c.stores.invariant.stands) (lockable_exists r.script.topology c.args.kind c.args.index on))
+    ∙ c.reach-reached.ensures.each (world r) c.args.kind c.args.index (presented r st c.stores.invariant.stands)
+    (tells_ever r st c.stores.invariant.stands) (lockable_exists r.script.topology c.args.kind c.args.index on))
     c.of.ensures (c.is_free_or_older.ensures (machine r) c.stores.invariant.stands.stores.clients)
 
 pub returns-else-is_member : goal.returns-else-is_member
@@ -48,5 +51,6 @@ returns-else-is_member c =
     lock_apart r c.args.core.now c.args.client c.args.kind c.args.index c.in-Some.request.now c.is_member.result
     (c.stores.view_is ∙ c.deref-stores.ensures ∙ c.core.view_is) c.in-Some.ensures on
     (c.is_member.ensures
-    ∙ c.reach-reached.ensures.each (world r) c.args.kind c.args.index (presented r st c.stores.invariant.stands) (tells_ever r st c.stores.invariant.stands) (lockable_exists r.script.topology c.args.kind c.args.index on))
+    ∙ c.reach-reached.ensures.each (world r) c.args.kind c.args.index (presented r st c.stores.invariant.stands)
+    (tells_ever r st c.stores.invariant.stands) (lockable_exists r.script.topology c.args.kind c.args.index on))
     c.if-is_member.false

@@ -10,8 +10,10 @@ use Rattle.kms_core.proofs.next.lacking.is_allowed.Goals as goal
 pub returns-then-is_member : goal.returns-then-is_member
 returns-then-is_member c =
     let v = c.args.core.now in
-    allowed_told v.script (machine v) c.args.client c.args.needs.now.request.now c.args.kind c.args.index true c.is_free_or_older.result c.requires.needs.taken c.requires.needs.none
-    (sym c.if-is_member.true ∙ c.is_member.ensures ∙ touched_told v.script.topology (world v) c.args.needs.now c.args.kind c.args.index c.requires.needs.needs c.requires.needs.device c.requires.lockable)
+    allowed_told v.script (machine v) c.args.client c.args.needs.now.request.now c.args.kind c.args.index true c.is_free_or_older.result
+    c.requires.needs.taken c.requires.needs.none
+    (sym c.if-is_member.true ∙ c.is_member.ensures ∙ touched_told v.script.topology (world v) c.args.needs.now c.args.kind c.args.index
+    c.requires.needs.needs c.requires.needs.device c.requires.lockable)
     (c.is_free_or_older.ensures (machine (run_in c.stores.inside)) c.stores.invariant.stands.stores.clients
     ∙ ap (λ (w : Run). is_free_or_older (machine w) (ticket_of (doing_at (machine w) c.args.client))
     (holder_at (machine w) c.of.result.0)) (c.stores.view_is ∙ c.deref-stores.ensures ∙ c.core.view_is)
@@ -21,5 +23,7 @@ pub returns-else-is_member : goal.returns-else-is_member
 returns-else-is_member c =
     let v = c.args.core.now in
     c.if-is_member.false
-    ∙ allowed_told v.script (machine v) c.args.client c.args.needs.now.request.now c.args.kind c.args.index false _ c.requires.needs.taken c.requires.needs.none
-    (sym c.if-is_member.false ∙ c.is_member.ensures ∙ touched_told v.script.topology (world v) c.args.needs.now c.args.kind c.args.index c.requires.needs.needs c.requires.needs.device c.requires.lockable) refl
+    ∙ allowed_told v.script (machine v) c.args.client c.args.needs.now.request.now c.args.kind c.args.index false _ c.requires.needs.taken
+    c.requires.needs.none
+    (sym c.if-is_member.false ∙ c.is_member.ensures ∙ touched_told v.script.topology (world v) c.args.needs.now c.args.kind c.args.index
+    c.requires.needs.needs c.requires.needs.device c.requires.lockable) refl

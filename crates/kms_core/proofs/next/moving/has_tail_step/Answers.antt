@@ -11,10 +11,12 @@ returns-then-tail_moves c =
     (sym (tail_moved c.args.core.now c.in-Some.commit) ∙ sym c.tail_moves.ensures ∙ c.if-tail_moves.true)
 
 pub overflow_add-from : goal.overflow_add-from
-overflow_add-from c = more_fits (run_in c.stores.inside) (stores_of c.stores.inside) c.stores.invariant.stands c.seeking.from c.in-Some.commit c.in-Some.ensures.machine
+overflow_add-from c = more_fits (run_in c.stores.inside) (stores_of c.stores.inside) c.stores.invariant.stands c.seeking.from
+    c.in-Some.commit c.in-Some.ensures.machine
 
 pub seeking-smaller : goal.seeking-smaller
-seeking-smaller c = fewer_left (run_in c.stores.inside) (stores_of c.stores.inside) c.stores.invariant.stands c.seeking.from c.in-Some.commit c.in-Some.ensures.machine
+seeking-smaller c = fewer_left (run_in c.stores.inside) (stores_of c.stores.inside) c.stores.invariant.stands c.seeking.from
+    c.in-Some.commit c.in-Some.ensures.machine
 
 pub seeking-preserved : goal.seeking-preserved
 seeking-preserved c =

@@ -36,11 +36,13 @@ returns-then-may_relock c =
     other_told c.args.core.now c.args.client c.requires.going (sym c.requires.none) false false false false false true
     (sym c.if-may_begin.false ∙ c.may_begin.ensures) (sym c.if-may_make.false ∙ c.may_make.ensures)
     (sym c.if-may_signal.false ∙ c.may_signal.ensures)
-    (sym c.if-may_read.false ∙ c.may_read.ensures) (sym c.if-may_back_off.false ∙ c.may_back_off.ensures) (sym c.if-may_relock.true ∙ c.may_relock.ensures)
+    (sym c.if-may_read.false ∙ c.may_read.ensures) (sym c.if-may_back_off.false ∙ c.may_back_off.ensures)
+    (sym c.if-may_relock.true ∙ c.may_relock.ensures)
 
 pub returns-else-may_relock : goal.returns-else-may_relock
 returns-else-may_relock c =
     lock_none c.args.core.now c.args.client (sym c.requires.none)
     ∙ other_told c.args.core.now c.args.client c.requires.going (sym c.requires.none) false false false false false false
     (sym c.if-may_begin.false ∙ c.may_begin.ensures) (sym c.if-may_make.false ∙ c.may_make.ensures)
-    (sym c.if-may_signal.false ∙ c.may_signal.ensures) (sym c.if-may_read.false ∙ c.may_read.ensures) (sym c.if-may_back_off.false ∙ c.may_back_off.ensures) (sym c.if-may_relock.false ∙ c.may_relock.ensures)
+    (sym c.if-may_signal.false ∙ c.may_signal.ensures) (sym c.if-may_read.false ∙ c.may_read.ensures)
+    (sym c.if-may_back_off.false ∙ c.may_back_off.ensures) (sym c.if-may_relock.false ∙ c.may_relock.ensures)

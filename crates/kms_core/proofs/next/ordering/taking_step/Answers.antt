@@ -8,31 +8,38 @@ pub returns-in_default : goal.returns-in_default
 returns-in_default c =
     let v = c.args.core.now in
     let q = c.args.request.now in
-    taking_told v c.args.client c.requires.going q c.requires.taken true _ _ (refuse_early v.script (machine v) c.args.client q c.requires.taken c.in_default.ensures) refl refl
+    taking_told v c.args.client c.requires.going q c.requires.taken true _ _
+    (refuse_early v.script (machine v) c.args.client q c.requires.taken c.in_default.ensures) refl refl
 
 pub returns-then-is_refused : goal.returns-then-is_refused
 returns-then-is_refused c =
     let v = c.args.core.now in
     let q = c.args.request.now in
     taking_told v c.args.client c.requires.going q c.requires.taken true _ _
-    (sym c.if-is_refused.true ∙ c.is_refused.ensures ∙ refuse_late v.script (machine v) c.args.client q c.requires.taken c.in-Some.judged c.in-Some.ensures c.is_test-is_test.result c.is_test-is_test.ensures) refl refl
+    (sym c.if-is_refused.true ∙ c.is_refused.ensures ∙ refuse_late v.script (machine v) c.args.client q c.requires.taken c.in-Some.judged
+    c.in-Some.ensures c.is_test-is_test.result c.is_test-is_test.ensures) refl refl
 
 pub returns-then-is_accepted : goal.returns-then-is_accepted
 returns-then-is_accepted c =
     let v = c.args.core.now in
     let q = c.args.request.now in
     taking_told v c.args.client c.requires.going q c.requires.taken false true _
-    (sym c.if-is_refused.false ∙ c.is_refused.ensures ∙ refuse_late v.script (machine v) c.args.client q c.requires.taken c.in-Some.judged c.in-Some.ensures c.is_test-is_test.result c.is_test-is_test.ensures)
-    (sym c.if-is_accepted.true ∙ c.is_accepted.ensures ∙ test_late v.script (machine v) c.args.client q c.requires.taken c.in-Some.judged c.in-Some.ensures c.is_test-is_test.result c.is_test-is_test.ensures) refl
+    (sym c.if-is_refused.false ∙ c.is_refused.ensures ∙ refuse_late v.script (machine v) c.args.client q c.requires.taken c.in-Some.judged
+    c.in-Some.ensures c.is_test-is_test.result c.is_test-is_test.ensures)
+    (sym c.if-is_accepted.true ∙ c.is_accepted.ensures ∙ test_late v.script (machine v) c.args.client q c.requires.taken c.in-Some.judged
+    c.in-Some.ensures c.is_test-is_test.result c.is_test-is_test.ensures) refl
 
 pub returns-then-is_committed : goal.returns-then-is_committed
 returns-then-is_committed c =
     let v = c.args.core.now in
     let q = c.args.request.now in
     taking_told v c.args.client c.requires.going q c.requires.taken false false true
-    (sym c.if-is_refused.false ∙ c.is_refused.ensures ∙ refuse_late v.script (machine v) c.args.client q c.requires.taken c.in-Some.judged c.in-Some.ensures c.is_test-is_test.result c.is_test-is_test.ensures)
-    (sym c.if-is_accepted.false ∙ c.is_accepted.ensures ∙ test_late v.script (machine v) c.args.client q c.requires.taken c.in-Some.judged c.in-Some.ensures c.is_test-is_test.result c.is_test-is_test.ensures)
-    (sym c.if-is_committed.true ∙ c.is_committed.ensures ∙ swap_late v.script (machine v) c.args.client q c.requires.taken c.in-Some.judged c.in-Some.ensures c.is_test-is_test.result c.is_test-is_test.ensures)
+    (sym c.if-is_refused.false ∙ c.is_refused.ensures ∙ refuse_late v.script (machine v) c.args.client q c.requires.taken c.in-Some.judged
+    c.in-Some.ensures c.is_test-is_test.result c.is_test-is_test.ensures)
+    (sym c.if-is_accepted.false ∙ c.is_accepted.ensures ∙ test_late v.script (machine v) c.args.client q c.requires.taken c.in-Some.judged
+    c.in-Some.ensures c.is_test-is_test.result c.is_test-is_test.ensures)
+    (sym c.if-is_committed.true ∙ c.is_committed.ensures ∙ swap_late v.script (machine v) c.args.client q c.requires.taken c.in-Some.judged
+    c.in-Some.ensures c.is_test-is_test.result c.is_test-is_test.ensures)
 
 pub returns-else-is_committed : goal.returns-else-is_committed
 returns-else-is_committed c =
@@ -40,6 +47,9 @@ returns-else-is_committed c =
     let q = c.args.request.now in
     c.lock_step.ensures ∙ lock_some v c.args.client q c.requires.taken
     ∙ taking_told v c.args.client c.requires.going q c.requires.taken false false false
-    (sym c.if-is_refused.false ∙ c.is_refused.ensures ∙ refuse_late v.script (machine v) c.args.client q c.requires.taken c.in-Some.judged c.in-Some.ensures c.is_test-is_test.result c.is_test-is_test.ensures)
-    (sym c.if-is_accepted.false ∙ c.is_accepted.ensures ∙ test_late v.script (machine v) c.args.client q c.requires.taken c.in-Some.judged c.in-Some.ensures c.is_test-is_test.result c.is_test-is_test.ensures)
-    (sym c.if-is_committed.false ∙ c.is_committed.ensures ∙ swap_late v.script (machine v) c.args.client q c.requires.taken c.in-Some.judged c.in-Some.ensures c.is_test-is_test.result c.is_test-is_test.ensures)
+    (sym c.if-is_refused.false ∙ c.is_refused.ensures ∙ refuse_late v.script (machine v) c.args.client q c.requires.taken c.in-Some.judged
+    c.in-Some.ensures c.is_test-is_test.result c.is_test-is_test.ensures)
+    (sym c.if-is_accepted.false ∙ c.is_accepted.ensures ∙ test_late v.script (machine v) c.args.client q c.requires.taken c.in-Some.judged
+    c.in-Some.ensures c.is_test-is_test.result c.is_test-is_test.ensures)
+    (sym c.if-is_committed.false ∙ c.is_committed.ensures ∙ swap_late v.script (machine v) c.args.client q c.requires.taken c.in-Some.judged
+    c.in-Some.ensures c.is_test-is_test.result c.is_test-is_test.ensures)

@@ -10,13 +10,27 @@ pub returns-in-Some : goal.returns-in-Some
 returns-in-Some c =
     ap Some c.write.ensures
     ∙ first_told c.args.core.now c.args.commit false (Some c.in-Some.index) _ _ _
-    (record { claim = sym c.if-may_claim.false ∙ c.may_claim.ensures; crtc = sym c.in-Some.is ∙ c.first_write.ensures; plane = refl; flush = refl; last = refl })
+    (record {
+      claim = sym c.if-may_claim.false ∙ c.may_claim.ensures;
+      crtc = sym c.in-Some.is ∙ c.first_write.ensures;
+      plane = refl;
+      flush =
+          refl;
+      last = refl;
+    })
 
 pub returns-in-Some-first_write : goal.returns-in-Some-first_write
 returns-in-Some-first_write c =
     ap Some c.write-in-Some-first_write.ensures
     ∙ first_told c.args.core.now c.args.commit false _ (Some c.in-Some-first_write.index) _ _
-    (record { claim = sym c.if-may_claim.false ∙ c.may_claim.ensures; crtc = sym c.in_default.is ∙ c.first_write.ensures; plane = sym c.in-Some-first_write.is ∙ c.first_write-2.ensures; flush = refl; last = refl })
+    (record {
+      claim = sym c.if-may_claim.false ∙ c.may_claim.ensures;
+      crtc = sym c.in_default.is ∙ c.first_write.ensures;
+      plane = sym
+          c.in-Some-first_write.is ∙ c.first_write-2.ensures;
+      flush = refl;
+      last = refl;
+    })
 
 pub returns-in-Some-first_flush : goal.returns-in-Some-first_flush
 returns-in-Some-first_flush c =

@@ -17,10 +17,12 @@ returns-in-Some-first_of_tail c =
     c.seeking.invariant
 
 pub overflow_add-from : goal.overflow_add-from
-overflow_add-from c = more_fits (run_in c.stores.inside) (stores_of c.stores.inside) c.stores.invariant.stands c.seeking.from c.in-Some.commit c.in-Some.ensures.machine
+overflow_add-from c = more_fits (run_in c.stores.inside) (stores_of c.stores.inside) c.stores.invariant.stands c.seeking.from
+    c.in-Some.commit c.in-Some.ensures.machine
 
 pub seeking-smaller : goal.seeking-smaller
-seeking-smaller c = fewer_left (run_in c.stores.inside) (stores_of c.stores.inside) c.stores.invariant.stands c.seeking.from c.in-Some.commit c.in-Some.ensures.machine
+seeking-smaller c = fewer_left (run_in c.stores.inside) (stores_of c.stores.inside) c.stores.invariant.stands c.seeking.from
+    c.in-Some.commit c.in-Some.ensures.machine
 
 pub seeking-preserved : goal.seeking-preserved
 seeking-preserved c =

@@ -16,10 +16,12 @@ returns-in-Some-fence_awaited_by c =
     c.in-Some.ensures.machine (sym c.in-Some-fence_awaited_by.is ∙ c.fence_awaited_by.ensures) c.seeking.invariant
 
 pub overflow_add-from : goal.overflow_add-from
-overflow_add-from c = more_fits (run_in c.stores.inside) (stores_of c.stores.inside) c.stores.invariant.stands c.seeking.from c.in-Some.commit c.in-Some.ensures.machine
+overflow_add-from c = more_fits (run_in c.stores.inside) (stores_of c.stores.inside) c.stores.invariant.stands c.seeking.from
+    c.in-Some.commit c.in-Some.ensures.machine
 
 pub seeking-smaller : goal.seeking-smaller
-seeking-smaller c = fewer_left (run_in c.stores.inside) (stores_of c.stores.inside) c.stores.invariant.stands c.seeking.from c.in-Some.commit c.in-Some.ensures.machine
+seeking-smaller c = fewer_left (run_in c.stores.inside) (stores_of c.stores.inside) c.stores.invariant.stands c.seeking.from
+    c.in-Some.commit c.in-Some.ensures.machine
 
 pub seeking-preserved : goal.seeking-preserved
 seeking-preserved c = awaits_further (run_in c.stores.inside) c.args.core.now (stores_of c.stores.inside) c.stores.invariant.stands

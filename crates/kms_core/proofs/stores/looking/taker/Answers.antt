@@ -1,5 +1,5 @@
 use Rattle.std.proofs.Common.{arith, refl, sym, ap, rules}
-use Rattle.kms_clients.specs.Standing.{doing_in}
+use Rattle.kms_wwlock.specs.Standing.{doing_in}
 use Rattle.kms_track.specs.Places.{first_below}
 use Rattle.kms_track.proofs.PlaceLemmas.{none_more, first_found}
 use Rattle.kms_core.specs.Decisions.{number_or_0, taker_at}
@@ -15,4 +15,5 @@ loop-index-preserved c =
 
 pub returns-in-Some : goal.returns-in-Some
 returns-in-Some c =
-    sym (ap number_or_0 (first_found (taker_at (doing_in c.args.clients.now.places) c.args.t.0) c.loop-index.index 16 c.in-Some.client c.loop-index.invariant (search rules) (omega arith)))
+    sym (ap number_or_0 (first_found (taker_at (doing_in c.args.clients.now.places) c.args.t.0) c.loop-index.index 16 c.in-Some.client
+    c.loop-index.invariant (search rules) (omega arith)))

@@ -1,5 +1,5 @@
 use Rattle.std.proofs.Common.{◌≡◌, None}
-use Rattle.kms_clients.specs.Standing.{doing_in}
+use Rattle.kms_wwlock.specs.Standing.{doing_in}
 use Rattle.kms_track.specs.Places.{first_below}
 use Rattle.kms_core.specs.Decisions.{taker_at}
 use Rattle.kms_core.proofs.stores.looking.taker.Given as goal

@@ -4,4 +4,5 @@ use Rattle.kms_device.proofs.Serving.{serves_new}
 use Rattle.kms_device.proofs.attempt.Findings.new.Goals as goal
 
 pub returns-clause-serves : goal.returns-clause-serves
-returns-clause-serves c r client = subst (λ states. Serves r client (record { looks = None; states = states })) (sym c.empty.ensures.states) (serves_new r client)
+returns-clause-serves c r client = subst (λ states. Serves r client (record { looks = None; states = states })) (sym c.empty.ensures.states)
+    (serves_new r client)

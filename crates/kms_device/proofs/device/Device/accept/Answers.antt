@@ -70,6 +70,7 @@ returns-then-is_test-clause-stands g c = λ place stands.
 
 pub returns-clause-stands : goal.returns-clause-stands
 returns-clause-stands g c = λ place stands.
-    concluded_at _ c.args.self.now.script _ c.args.pass.now c.swap.new.pass c.conclude-2.new.pass place stands c.args.work.taking.request.now
+    concluded_at _ c.args.self.now.script _ c.args.pass.now c.swap.new.pass c.conclude-2.new.pass place stands
+    c.args.work.taking.request.now
     (with_looks c.args.work.looks c.args.kept.now.states) c.conclude-2.new.kept (step.Swap c.args.pass.now.rank)
     c.in_ok-answer-2.answer c.conclude-2.result c.in_ok-answer-2.ensures c.conclude-2.ensures.did

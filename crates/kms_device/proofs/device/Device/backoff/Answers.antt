@@ -13,10 +13,13 @@ turn-requires-clause-callable g c = λ found finds.
 
 pub turn-requires-clause-steps : goal.turn-requires-clause-steps
 turn-requires-clause-steps g c = λ found left r finds called.
-    let context : HasContext found c.args.pass.now.rank c.args.t = (may_back_off c.args.self.now.script c.args.pass.now found finds c.args.t c.requires.must).1 in
-    adds_of c.args.pass.now.rank found left _ (one_if_ok c.args.pass.now.rank r (step.BackOff c.args.pass.now.rank) refl refl) (search rules)
+    let context : HasContext found c.args.pass.now.rank c.args.t =
+    (may_back_off c.args.self.now.script c.args.pass.now found finds c.args.t c.requires.must).1 in
+    adds_of c.args.pass.now.rank found left _ (one_if_ok c.args.pass.now.rank r (step.BackOff c.args.pass.now.rank) refl refl)
+    (search rules)
 
 pub returns : goal.returns
 returns g c = turn_of _ _ _ _ _ _ _ _ c.turn.ensures (λ x y finds called.
-    let context : HasContext x c.args.pass.now.rank c.args.t = (may_back_off c.args.self.now.script c.args.pass.now x finds c.args.t c.requires.must).1 in
+    let context : HasContext x c.args.pass.now.rank c.args.t =
+    (may_back_off c.args.self.now.script c.args.pass.now x finds c.args.t c.requires.must).1 in
     search rules)

@@ -24,13 +24,16 @@ attempt-requires-clause-stands g c = c.loop.invariant.stands
 pub returns-in_err-reply-clause-broken_off : goal.returns-in_err-reply-clause-broken_off
 returns-in_err-reply-clause-broken_off g c =
     OnErr-always c.from_residual.result
-    (broken c.args.self.now.script c.args.client c.args.pass.now c.loop.pass c.attempt.new.pass c.loop.work c.loop.invariant c.in_err-reply.ensures.no_step c.in_err-reply.ensures.stays)
+    (broken c.args.self.now.script c.args.client c.args.pass.now c.loop.pass c.attempt.new.pass c.loop.work c.loop.invariant
+    c.in_err-reply.ensures.no_step c.in_err-reply.ensures.stays)
 
 pub returns-in-Answered-clause-committed : goal.returns-in-Answered-clause-committed
 returns-in-Answered-clause-committed g c =
-    made_all c.args.self.now.script c.args.client c.args.pass.now c.loop.pass c.attempt.new.pass c.loop.work c.loop.invariant c.in_ok-reply.field-0 c.attempt.new.work.kept c.in-Answered.reply c.in-Answered.is c.in_ok-reply.ensures.did
+    made_all c.args.self.now.script c.args.client c.args.pass.now c.loop.pass c.attempt.new.pass c.loop.work c.loop.invariant
+    c.in_ok-reply.field-0 c.attempt.new.work.kept c.in-Answered.reply c.in-Answered.is c.in_ok-reply.ensures.did
 
 pub loop-preserved : goal.loop-preserved
 loop-preserved g c =
-    made_more c.args.self.now.script c.args.client c.args.pass.now c.loop.pass c.attempt.new.pass c.loop.work c.loop.invariant c.in_ok-reply.field-0 c.attempt.new.work c.in_default.not-Answered c.in_ok-reply.ensures.did
+    made_more c.args.self.now.script c.args.client c.args.pass.now c.loop.pass c.attempt.new.pass c.loop.work c.loop.invariant
+    c.in_ok-reply.field-0 c.attempt.new.work c.in_default.not-Answered c.in_ok-reply.ensures.did
     c.in_ok-reply.ensures.goes_on c.in_ok-reply.ensures.serves c.attempt.ensures.stands

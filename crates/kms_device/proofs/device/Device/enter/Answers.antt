@@ -11,11 +11,13 @@ begin-requires-clause-may g c = subst (MayBegin (run_seen c.args.self.now.script
     c.args.self.now.script c.args.pass.now c.args.kept.now c.requires.ready c.requires.idle)
 
 pub returns-in_err-t-clause-tried : goal.returns-in_err-t-clause-tried
-returns-in_err-t-clause-tried g c = tried_err _ _ _ _ _ c.from_residual.result c.from_residual.ensures.0 (nothing_done _ _ _ _ c.args.kept.now
+returns-in_err-t-clause-tried g c = tried_err _ _ _ _ _ c.from_residual.result c.from_residual.ensures.0
+    (nothing_done _ _ _ _ c.args.kept.now
     c.requires.ready c.in_err-t.ensures)
 
 pub returns-clause-tried : goal.returns-clause-tried
-returns-clause-tried g c = began_as _ _ c.args.pass.now c.begin.new.pass c.args.kept.now c.new.result c.args.client c.requires.ready c.requires.idle
+returns-clause-tried g c = began_as _ _ c.args.pass.now c.begin.new.pass c.args.kept.now c.new.result c.args.client c.requires.ready
+    c.requires.idle
     c.requires.whose c.new.ensures.none c.in_ok-t.ensures
 
 pub returns-in_err-t-clause-stands : goal.returns-in_err-t-clause-stands

@@ -35,7 +35,8 @@ move_with-requires-in-None-clause-stands g c = still_of_pass _ _ _ _ _ c.require
 
 pub returns-in_ok-looks-in-None-clause-stands : goal.returns-in_ok-looks-in-None-clause-stands
 returns-in_ok-looks-in-None-clause-stands g c =
-    subst (λ n. StandsAfter (run_seen c.args.self.now.script c.move_with-in-None.new.pass) n c.move_with-in-None.result c.move_with-in-None.new.here)
+    subst (λ n. StandsAfter (run_seen c.args.self.now.script c.move_with-in-None.new.pass) n c.move_with-in-None.result
+    c.move_with-in-None.new.here)
     (rank-after _ _ [] c.args.pass.now c.lookups.new.pass c.in_ok-looks-in-None.ensures) c.move_with-in-None.ensures.stands
 
 pub returns-in-Some-clause-tried : goal.returns-in-Some-clause-tried

@@ -10,15 +10,19 @@ use Rattle.kms_device.proofs.device.Device.refuse.Goals as goal
 
 pub turn-requires-clause-callable : goal.turn-requires-clause-callable
 turn-requires-clause-callable g c = λ found finds.
-    let may : MayRefuse found c.args.t.0 c.args.used.now c.args.why = may_refuse c.args.self.now.script c.args.pass.now found finds c.args.t c.args.used.now c.args.why c.requires.may in
+    let may : MayRefuse found c.args.t.0 c.args.used.now c.args.why = may_refuse c.args.self.now.script c.args.pass.now found finds c.args.t
+    c.args.used.now c.args.why c.requires.may in
     grind serving
 
 pub turn-requires-clause-steps : goal.turn-requires-clause-steps
 turn-requires-clause-steps g c = λ found left r finds called.
-    let same : taker (machine found) c.args.t.0 ≡ c.args.pass.now.rank = the_taker c.args.self.now.script c.args.pass.now found finds c.args.t c.args.used.now c.requires.may.request c.requires.may.deciding in
-    adds_of c.args.pass.now.rank found left _ (decides_of c.args.pass.now.rank r (step.Refuse c.args.pass.now.rank) refl refl) (search rules)
+    let same : taker (machine found) c.args.t.0 ≡ c.args.pass.now.rank = the_taker c.args.self.now.script c.args.pass.now found finds
+    c.args.t c.args.used.now c.requires.may.request c.requires.may.deciding in
+    adds_of c.args.pass.now.rank found left _ (decides_of c.args.pass.now.rank r (step.Refuse c.args.pass.now.rank) refl refl)
+    (search rules)
 
 pub returns : goal.returns
 returns g c = turn_of _ _ _ _ _ _ _ _ c.turn.ensures (λ x y finds called.
-    let same : taker (machine x) c.args.t.0 ≡ c.args.pass.now.rank = the_taker c.args.self.now.script c.args.pass.now x finds c.args.t c.args.used.now c.requires.may.request c.requires.may.deciding in
+    let same : taker (machine x) c.args.t.0 ≡ c.args.pass.now.rank = the_taker c.args.self.now.script c.args.pass.now x finds c.args.t
+    c.args.used.now c.requires.may.request c.requires.may.deciding in
     search rules)

@@ -9,7 +9,8 @@ use Rattle.kms_device.proofs.TurnsTried.{nothing_done}
 use Rattle.kms_device.proofs.device.Device.take_first.Goals as goal
 
 pub returns-in_err-answer-clause-tried : goal.returns-in_err-answer-clause-tried
-returns-in_err-answer-clause-tried g c = tried_err _ _ _ _ _ c.from_residual.result c.from_residual.ensures.0 (nothing_done _ _ _ _ c.args.kept.now
+returns-in_err-answer-clause-tried g c = tried_err _ _ _ _ _ c.from_residual.result c.from_residual.ensures.0
+    (nothing_done _ _ _ _ c.args.kept.now
     c.requires.ready c.in_err-answer.ensures)
 
 pub returns-clause-tried : goal.returns-clause-tried

@@ -11,7 +11,8 @@ use Rattle.kms_device.proofs.device.Device.try_step.Goals as goal
 pub step_at-requires : goal.step_at-requires
 step_at-requires g c =
     let b =
-    begins_at ℕ c.args.self.now.script c.args.pass.now c.stand-here.new.pass c.args.work.now.kept c.args.client c.requires.whose c.requires.may
+    begins_at ℕ c.args.self.now.script c.args.pass.now c.stand-here.new.pass c.args.work.now.kept c.args.client c.requires.whose
+    c.requires.may
     c.requires.serves c.stand-here.result c.take.result
     (subst (λ o. IfSome o (StandsAt (run_seen c.args.self.now.script c.args.pass.now) c.args.client)) (sym c.take.ensures.value)
     c.requires.stands) c.stand-here.ensures in
@@ -20,7 +21,8 @@ step_at-requires g c =
 pub returns-in_err-did-clause-tried : goal.returns-in_err-did-clause-tried
 returns-in_err-did-clause-tried g c =
     let b =
-    begins_at ℕ c.args.self.now.script c.args.pass.now c.stand-here.new.pass c.args.work.now.kept c.args.client c.requires.whose c.requires.may
+    begins_at ℕ c.args.self.now.script c.args.pass.now c.stand-here.new.pass c.args.work.now.kept c.args.client c.requires.whose
+    c.requires.may
     c.requires.serves c.stand-here.result c.take.result
     (subst (λ o. IfSome o (StandsAt (run_seen c.args.self.now.script c.args.pass.now) c.args.client)) (sym c.take.ensures.value)
     c.requires.stands) c.stand-here.ensures in
@@ -30,7 +32,8 @@ returns-in_err-did-clause-tried g c =
 pub returns-clause-tried : goal.returns-clause-tried
 returns-clause-tried g c =
     let b =
-    begins_at ℕ c.args.self.now.script c.args.pass.now c.stand-here.new.pass c.args.work.now.kept c.args.client c.requires.whose c.requires.may
+    begins_at ℕ c.args.self.now.script c.args.pass.now c.stand-here.new.pass c.args.work.now.kept c.args.client c.requires.whose
+    c.requires.may
     c.requires.serves c.stand-here.result c.take.result
     (subst (λ o. IfSome o (StandsAt (run_seen c.args.self.now.script c.args.pass.now) c.args.client)) (sym c.take.ensures.value)
     c.requires.stands) c.stand-here.ensures in
@@ -39,7 +42,8 @@ returns-clause-tried g c =
 pub returns-clause-stands : goal.returns-clause-stands
 returns-clause-stands g c =
     let b =
-    begins_at ℕ c.args.self.now.script c.args.pass.now c.stand-here.new.pass c.args.work.now.kept c.args.client c.requires.whose c.requires.may
+    begins_at ℕ c.args.self.now.script c.args.pass.now c.stand-here.new.pass c.args.work.now.kept c.args.client c.requires.whose
+    c.requires.may
     c.requires.serves c.stand-here.result c.take.result
     (subst (λ o. IfSome o (StandsAt (run_seen c.args.self.now.script c.args.pass.now) c.args.client)) (sym c.take.ensures.value)
     c.requires.stands) c.stand-here.ensures in

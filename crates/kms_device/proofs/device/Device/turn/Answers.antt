@@ -9,7 +9,8 @@ with-requires-clause-callable g c = λ x finds.
     let finds2 = finds_of c.args.self.now.script _ c.args.pass.now x (sym c.self.invariant ∙ ap (λ d. d.script) c.self.view_is) finds in
     λ p same lives at number held count lifetimes outlive. (
       λ q shown. c.requires.callable x finds2 q (shown ∙ same),
-      λ left r called. (let at_x = subst (λ z. FnOnceReturnsAtMut g.F.FnOnce c.args.call z r left) same called in subst (λ z. AddsPlain z left) (sym same) (c.requires.steps x left r finds2 at_x).adds),
+      λ left r called. (let at_x = subst (λ z. FnOnceReturnsAtMut g.F.FnOnce c.args.call z r left) same called
+          in subst (λ z. AddsPlain z left) (sym same) (c.requires.steps x left r finds2 at_x).adds),
     )
 
 pub with-requires-clause-goes_on : goal.with-requires-clause-goes_on

@@ -31,6 +31,7 @@ returns-in_err-answer-clause-stands g c = λ place stands. stands_err _ _ c.from
 
 pub returns-clause-stands : goal.returns-clause-stands
 returns-clause-stands g c = λ place stands.
-    concluded_at _ c.args.self.now.script _ c.args.pass.now c.refuse.new.pass c.conclude.new.pass place stands c.args.work.taking.request.now
+    concluded_at _ c.args.self.now.script _ c.args.pass.now c.refuse.new.pass c.conclude.new.pass place stands
+    c.args.work.taking.request.now
     (with_looks c.args.work.looks c.args.kept.now.states) c.conclude.new.kept (step.Refuse c.args.pass.now.rank)
     c.in_ok-answer.answer c.conclude.result c.in_ok-answer.ensures c.conclude.ensures.did

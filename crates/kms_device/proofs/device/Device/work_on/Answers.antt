@@ -10,7 +10,8 @@ pub turn-requires-clause-steps : goal.turn-requires-clause-steps
 turn-requires-clause-steps g c = λ found left r finds called.
     let told : r ≡ find (is_legal found) (tail_of found.script.topology c.args.commit) = search rules in
     adds_of c.args.pass.now.rank found left _
-    (subst (λ o. ArePlainOf c.args.pass.now.rank (option_to_list o)) (sym told) (plain_tail c.args.pass.now.rank found c.args.commit)) (search rules)
+    (subst (λ o. ArePlainOf c.args.pass.now.rank (option_to_list o)) (sym told) (plain_tail c.args.pass.now.rank found c.args.commit))
+    (search rules)
 
 pub returns : goal.returns
 returns g c = turn_of _ _ _ _ _ _ _ _ c.turn.ensures (λ x y finds called. search rules)

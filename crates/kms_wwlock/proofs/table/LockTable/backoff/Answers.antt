@@ -11,8 +11,10 @@ use Rattle.kms_wwlock.proofs.table.LockTable.backoff.Goals as goal
 -- the object was lockable when the context had to back off for it
 pub invariant_of-self : goal.invariant_of-self
 invariant_of-self c =
-    front_kept c.args.t (BackedOff c.in-Some-MustBackOff.id) c.self.inside.contexts.items c.set_doing.new.contexts c.self.inside.contexts.len
-    c.self.inside.drawn (named c.args.t (MustBackOff c.in-Some-MustBackOff.id) c.self.inside.contexts.items c.self.invariant.lockable (search rules))
+    front_kept c.args.t (BackedOff c.in-Some-MustBackOff.id) c.self.inside.contexts.items c.set_doing.new.contexts
+    c.self.inside.contexts.len
+    c.self.inside.drawn (named c.args.t (MustBackOff c.in-Some-MustBackOff.id) c.self.inside.contexts.items c.self.invariant.lockable
+    (search rules))
     c.self.invariant (search rules) (search rules)
 
 pub returns-clause-backed_off : goal.returns-clause-backed_off
@@ -23,7 +25,8 @@ returns-clause-backed_off c = λ id is.
     let same : c.in-Some-MustBackOff.id ≡ id = cc in
     let written : c.set_doing.new.contexts ≡ map (with_doing c.args.t (BackedOff c.in-Some-MustBackOff.id)) old.contexts = search rules in
     rw (← c.self.view_is)
-    (set_at old c.args.t (BackedOff id) (MustBackOff id) c.free_all.new.holders (with_items c.self.inside.contexts c.set_doing.new.contexts).items
+    (set_at old c.args.t (BackedOff id) (MustBackOff id) c.free_all.new.holders
+    (with_items c.self.inside.contexts c.set_doing.new.contexts).items
     (front_is old.contexts c.set_doing.new.contexts c.self.inside.contexts.len (search rules) ∙ written
     ∙ ap (λ (o : ObjId). map (with_doing c.args.t (BackedOff o)) old.contexts) same)
     asked)

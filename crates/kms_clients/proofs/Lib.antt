@@ -1,4 +1,0 @@
-mod Places
-mod Ties
-pub mod Held
-mod InMachine
