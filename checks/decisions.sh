@@ -11,10 +11,10 @@ top=$(cd "$here/.." && pwd)
 work=$(mktemp -d)
 trap 'rm -rf "$work"' EXIT
 (cd "$top" && tar -cf - --exclude=out HANDLES crates.txt crates) | tar -xf - -C "$work"
-sed -i 's/^kms_core_tests: .*/& kms_request kms_check kms_state/' "$work/crates.txt"
-cp "$here/decisions/decisions.rt.txt" "$work/crates/kms_core_tests/src/decisions.rt"
-printf '#[cfg(test)]\nmod decisions;\n' >>"$work/crates/kms_core_tests/src/lib.rt"
-cd "$work/crates/kms_core_tests"
+sed -i 's/^kms_machine_tests .*/& kms_request kms_check kms_state/' "$work/crates.txt"
+cp "$here/decisions/decisions.rt.txt" "$work/crates/kms_machine_tests/src/decisions.rt"
+printf '#[cfg(test)]\nmod decisions;\n' >>"$work/crates/kms_machine_tests/src/lib.rt"
+cd "$work/crates/kms_machine_tests"
 rt try --test >"$work/said" 2>&1 || :
 grep "decisions::" "$work/said" || { cat "$work/said" >&2; exit 1; }
 ! grep -q "decisions::.*FAILED" "$work/said"

@@ -1,5 +1,5 @@
 #!/bin/sh
-# Compares the bytes of an event, which kms_store_tests has, with those of the kernel's own struct
+# Compares the bytes of an event, which kms_machine_tests has, with those of the kernel's own struct
 # (struct drm_event_vblank of drm.h). Skipped where the header or a C compiler is missing.
 here=$(dirname "$0")
 . "$here/compiling.sh"

@@ -48,7 +48,8 @@ abbrev nothing : List Bool
 nothing = false ∷ false ∷ false ∷ false ∷ false ∷ false ∷ false ∷ []
 
 -- a closed framebuffer counts: the second plane is set
-pub closed_framebuffer : reached (assigns_to kind.Plane 1 FB_ID (value.Named 0) ∷ []) ≡ false ∷ false ∷ false ∷ true ∷ false ∷ false ∷ false ∷ []
+pub closed_framebuffer : reached (assigns_to kind.Plane 1 FB_ID (value.Named 0) ∷ []) ≡ false ∷ false ∷ false ∷ true ∷ false ∷ false ∷ false
+    ∷ []
 unfolding reaches own_refusal touches
 closed_framebuffer = refl
 
@@ -58,7 +59,8 @@ unfolding reaches own_refusal touches
 closed_mode = refl
 
 -- the mode that it has counts too, and is no modeset
-pub same_mode_closed : reached (assigns_to kind.Crtc 0 MODE_ID (value.Named 1) ∷ []) ≡ true ∷ false ∷ false ∷ false ∷ false ∷ false ∷ false ∷ []
+pub same_mode_closed : reached (assigns_to kind.Crtc 0 MODE_ID (value.Named 1) ∷ []) ≡ true ∷ false ∷ false ∷ false ∷ false ∷ false ∷ false
+    ∷ []
 unfolding reaches own_refusal touches
 same_mode_closed = refl
 
@@ -80,7 +82,9 @@ unfolding reaches own_refusal touches
 one_assignment_reaches_what_it_touches = refl
 
 -- of three assignments the first and the last are refused
-pub refused_assignments_reach_nothing_among_others : reached (assigns_to kind.Plane 0 ALPHA (value.Num (pos 65536)) ∷ assigns_to kind.Conn 1 CRTC_ID (value.Crtc 1) ∷ assigns_to kind.Crtc 0 ACTIVE (value.Num (pos 2)) ∷ []) ≡ false ∷ true ∷ false ∷ false ∷ false ∷ true ∷ false ∷ []
+pub refused_assignments_reach_nothing_among_others : reached
+    (assigns_to kind.Plane 0 ALPHA (value.Num (pos 65536)) ∷ assigns_to kind.Conn 1 CRTC_ID (value.Crtc 1)
+    ∷ assigns_to kind.Crtc 0 ACTIVE (value.Num (pos 2)) ∷ []) ≡ false ∷ true ∷ false ∷ false ∷ false ∷ true ∷ false ∷ []
 unfolding reaches own_refusal touches
 refused_assignments_reach_nothing_among_others = refl
 
@@ -104,6 +108,7 @@ unfolding reaches own_refusal touches
 refused_assignments_reach_nothing = refl
 
 -- a second fence of a plane is refused, and its assignment counts all the same
-pub second_fence : reached (assigns_to kind.Plane 1 IN_FENCE_FD (value.Named 3) ∷ assigns_to kind.Plane 1 IN_FENCE_FD (value.Num (negsuc 0)) ∷ []) ≡ false ∷ false ∷ false ∷ true ∷ false ∷ false ∷ false ∷ []
+pub second_fence : reached (assigns_to kind.Plane 1 IN_FENCE_FD (value.Named 3) ∷ assigns_to kind.Plane 1 IN_FENCE_FD (value.Num (negsuc 0))
+    ∷ []) ≡ false ∷ false ∷ false ∷ true ∷ false ∷ false ∷ false ∷ []
 unfolding reaches own_refusal touches
 second_fence = refl

@@ -31,9 +31,11 @@ pub stands_start : (t : Topology) (d : Device) → IsDevice t → d ≡ record {
 stands_start t d device is = subst (Stands t) (sym is) (record { device = device; same = refl; lawful = start_is_lawful t device })
 
 -- and after a command
-pub stands_after : (t : Topology) (old new : Device) (client : ℕ) (c : Command) (r : Reply) → Stands t old → execute old.topology old.world client c ≡ record { world = new.world; reply = r } → new.topology ≡ old.topology → Stands t new
+pub stands_after : (t : Topology) (old new : Device) (client : ℕ) (c : Command) (r : Reply) → Stands t old
+    → execute old.topology old.world client c ≡ record { world = new.world; reply = r } → new.topology ≡ old.topology → Stands t new
 stands_after t old new client c r s executed same =
-    let here : execute t old.world client c ≡ record { world = new.world; reply = r } = subst (λ (u : Topology). execute u old.world client c ≡ record { world = new.world; reply = r }) s.same executed in
+    let here : execute t old.world client c ≡ record { world = new.world; reply = r } = subst
+    (λ (u : Topology). execute u old.world client c ≡ record { world = new.world; reply = r }) s.same executed in
     record {
       device = s.device;
       same = same ∙ s.same;
@@ -50,7 +52,8 @@ pub stands_limits : (t : Topology) → IsDevice t → keeps_limits t ≡ true
 stands_limits t device = limits_of t device
 
 -- the present states are those of the device's world
-pub present_held : (t : Topology) (d : Device) (states : Duplicates) → Stands t d → IsPresent d.topology d.world states → AreOfSoundWorld t states
+pub present_held : (t : Topology) (d : Device) (states : Duplicates) → Stands t d → IsPresent d.topology d.world states
+    → AreOfSoundWorld t states
 present_held t d states s present = record {
   world = d.world;
   sound = s.lawful.sound;
@@ -73,11 +76,13 @@ of_kinds a b c d = record {
   conns = cond c d.conns (replicate 8 None);
 }
 
-kept_old : {S : Type 0} (is : Bool) (n : ℕ) (state : ℕ → S) (states : List (Option (Both S))) → AreOld state states → AreOld state (cond is states (replicate n None))
+kept_old : {S : Type 0} (is : Bool) (n : ℕ) (state : ℕ → S) (states : List (Option (Both S))) → AreOld state states
+    → AreOld state (cond is states (replicate n None))
 kept_old true n state states old index both at = old index both at
 kept_old false n state states old index both at = absurd (nothing_there n index both at)
 
-kept_fresh : {S : Type 0} (is : Bool) (n : ℕ) (states : List (Option (Both S))) → AreFreshIn states → AreFreshIn (cond is states (replicate n None))
+kept_fresh : {S : Type 0} (is : Bool) (n : ℕ) (states : List (Option (Both S))) → AreFreshIn states
+    → AreFreshIn (cond is states (replicate n None))
 kept_fresh true n states fresh index both at = fresh index both at
 kept_fresh false n states fresh index both at = absurd (nothing_there n index both at)
 

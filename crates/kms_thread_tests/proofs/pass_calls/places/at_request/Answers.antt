@@ -7,10 +7,14 @@ pub returns : goal.returns
 returns g c = record {
   same = (ap (λ p. p.lock) c.place-place.ensures.now, ap (λ p. p.rank) c.place-place.ensures.now);
   ready =
-      ready_told c.args.device.now.script c.in_ok-client.client c.place-place.result c.args.pass.now c.place-place.new.pass c.in_ok-client.ensures.whose c.place-place.ensures
-      c.script.result.now c.script.ensures c.in_ok-request.request.now c.in_ok-request.ensures (returning_not c.place-place.result.doing c.in_default.not-Returning);
-  doing = doing_told c.args.device.now.script c.in_ok-client.client c.place-place.result c.args.pass.now c.place-place.new.pass c.in_ok-client.ensures.whose c.place-place.ensures;
+      ready_told c.args.device.now.script c.in_ok-client.client c.place-place.result c.args.pass.now c.place-place.new.pass
+      c.in_ok-client.ensures.whose c.place-place.ensures
+      c.script.result.now c.script.ensures c.in_ok-request.request.now c.in_ok-request.ensures
+      (returning_not c.place-place.result.doing c.in_default.not-Returning);
+  doing = doing_told c.args.device.now.script c.in_ok-client.client c.place-place.result c.args.pass.now c.place-place.new.pass
+      c.in_ok-client.ensures.whose c.place-place.ensures;
   request =
-      request_told c.args.device.now.script c.in_ok-client.client c.place-place.result c.args.pass.now c.place-place.new.pass c.in_ok-client.ensures.whose c.place-place.ensures
+      request_told c.args.device.now.script c.in_ok-client.client c.place-place.result c.args.pass.now c.place-place.new.pass
+      c.in_ok-client.ensures.whose c.place-place.ensures
       c.script.result.now c.script.ensures c.in_ok-request.request.now c.in_ok-request.ensures;
 }

@@ -1,4 +1,0 @@
-use Rattle.kms_report_tests.proofs.screens.dark.Goals as goal
-
-pub returns : goal.returns
-returns c = c.dark.ensures.images c.args.images.now
