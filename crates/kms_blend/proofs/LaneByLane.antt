@@ -1,7 +1,10 @@
 -- Vectors of 16 lanes, operation by operation, and what is computed lane by lane.
-use Rattle.std.proofs.Common.{◌≡◌, ◌<◌, ◌≤◌, ℕ, ◌+◌, ◌-◌, ◌*◌, ◌/◌, ◌%◌, ◌^◌, Bool, true, false, cond, ltb, min, List, map, length, replicate, slice_index, refl, sym, ap, subst, ◌∙◌, arith, w8, w16, Fits, ltb-true, ltb-false}
+use Rattle.std.proofs.Common.{◌≡◌, ◌<◌, ◌≤◌, ℕ, ◌+◌, ◌-◌, ◌*◌, ◌/◌, ◌%◌, ◌^◌, Bool, true, false, cond, ltb, min, List, map, length}
+use Rattle.std.proofs.Common.{replicate, slice_index, refl, sym, ap, subst, ◌∙◌, arith, w8, w16, Fits, ltb-true, ltb-false}
 use Rattle.std.proofs.lemmas.List.{get_or-map, length-map}
-use Rattle.std.proofs.lemmas.Simd.{Each1-from_get_or, Each1-get_or, get_or-chunk, get_or-put_chunk_above, get_or-put_chunk_at, get_or-put_chunk_below, get_or-replicate, get_or-sel_l, get_or-zip2, length-replicate, length-sel_l, length-zip2, tops_compared}
+use Rattle.std.proofs.lemmas.Simd.{Each1-from_get_or, Each1-get_or, get_or-chunk, get_or-put_chunk_above, get_or-put_chunk_at}
+use Rattle.std.proofs.lemmas.Simd.{get_or-put_chunk_below, get_or-replicate, get_or-sel_l, get_or-zip2, length-replicate, length-sel_l}
+use Rattle.std.proofs.lemmas.Simd.{length-zip2, tops_compared}
 use Rattle.std.proofs.Math.Nat.{mul-le-mul}
 use lib.Lanes.{Each1, chunk, put_chunk, zip2, sel_l, top}
 use mir.Syntax.{Width}
@@ -190,12 +193,14 @@ short_rest n = omega arith
 taken_out : (m f w b : ℕ) → 65535 * m * f + 65535 * w * b ≡ 65535 * (m * f + w * b)
 taken_out m f w b = omega arith
 
-pub by_alpha : (q f b : ℕ) → q ≤ 255 → (65535 * 255 * f + (16711425 - 65535 * q) * b + 8355712) / 16711425 ≡ (255 * f + (255 - q) * b + 127) / 255
+pub by_alpha : (q f b : ℕ) → q ≤ 255 → (65535 * 255 * f + (16711425 - 65535 * q) * b + 8355712) / 16711425 ≡ (255 * f + (255 - q) * b + 127)
+    / 255
 by_alpha q f b h =
     let weight : 16711425 - 65535 * q ≡ 65535 * (255 - q) = omega (arith, h) in
     rw weight (ap (λ (n : ℕ). (n + 8355712) / 16711425) (taken_out 255 f (255 - q) b) ∙ short_rest (255 * f + (255 - q) * b))
 
-pub by_coverage : (q f b : ℕ) → q ≤ 255 → (65535 * q * f + (16711425 - 65535 * q) * b + 8355712) / 16711425 ≡ (q * f + (255 - q) * b + 127) / 255
+pub by_coverage : (q f b : ℕ) → q ≤ 255 → (65535 * q * f + (16711425 - 65535 * q) * b + 8355712) / 16711425 ≡ (q * f + (255 - q) * b + 127)
+    / 255
 by_coverage q f b h =
     let weight : 16711425 - 65535 * q ≡ 65535 * (255 - q) = omega (arith, h) in
     rw weight (ap (λ (n : ℕ). (n + 8355712) / 16711425) (taken_out q f (255 - q) b) ∙ short_rest (q * f + (255 - q) * b))

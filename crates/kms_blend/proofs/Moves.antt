@@ -1,5 +1,6 @@
 -- A blended channel as the lower one, moved by a part of what lies between the layer's and its own.
-use Rattle.std.proofs.Common.{◌≡◌, ◌<◌, ◌≤◌, ℕ, ◌+◌, ◌-◌, ◌*◌, ◌/◌, ◌%◌, Bool, true, false, cond, ltb, min, bit_and, bit_xor, refl, sym, ap, ◌∙◌, arith, ltb-true, ltb-false}
+use Rattle.std.proofs.Common.{◌≡◌, ◌<◌, ◌≤◌, ℕ, ◌+◌, ◌-◌, ◌*◌, ◌/◌, ◌%◌, Bool, true, false, cond, ltb, min, bit_and, bit_xor, refl, sym, ap}
+use Rattle.std.proofs.Common.{◌∙◌, arith, ltb-true, ltb-false}
 use Rattle.std.proofs.lemmas.Nat.{and_mask}
 use Rattle.std.specs.Int.Bits.{xor_add_and, xor_zero_r}
 use Rattle.kms_blend.specs.Lanes.{apart, moved}

@@ -6,14 +6,14 @@ ghost use Rattle.kms_blend.specs.Lanes.{HasLanes, HasSmallProducts, IsAtMost, Is
 use std::simd::prelude::*;
 
 /// The sums of two vectors, and 255 where that would be more.
-fn saturated(v: u8x16, w: u8x16) -> u8x16
+fn add_saturating(v: u8x16, w: u8x16) -> u8x16
     ensures { HasLanes result (λ i. min 255 (slice_index v i + slice_index w i)) }
 {
     v + w.simd_min(u8x16::splat(255) - v)
 }
 
 /// The same of 16 bits, and 65535.
-fn short_saturated(v: u16x16, w: u16x16) -> u16x16
+fn add_short_saturating(v: u16x16, w: u16x16) -> u16x16
     ensures { HasLanes result (λ i. min 65535 (slice_index v i + slice_index w i)) }
 {
     v + w.simd_min(u16x16::splat(65535) - v)
@@ -44,18 +44,18 @@ pub fn products(v: u8x16, w: u8x16) -> u16x16
     v.cast::<u16>() * w.cast::<u16>()
 }
 
-/// 255 times each byte. The plane's alpha only hides the constant from LLVM (`unfolded`).
+/// 255 times each byte. The plane's alpha only hides the constant from LLVM (`hide`).
 pub fn wholes(a: u32, v: u8x16) -> u16x16
     requires { a ≤ 65535 }
     ensures lanes { HasLanes result (λ i. 255 * slice_index v i) }
     ensures most { IsAtMost 65025 result }
 {
-    lower_products(unfolded(255, a), v.cast::<u16>())
+    lower_products(hide(255, a), v.cast::<u16>())
 }
 
 /// `n`, in a form that LLVM does not see through. A product with a constant 255 it takes apart into three instructions, and one with a
 /// constant 257 it narrows by masks.
-fn unfolded(n: u32, a: u32) -> u32
+fn hide(n: u32, a: u32) -> u32
     requires n { n ≤ 65535 }
     requires a { a ≤ 65535 }
     ensures { result ≡ n }
@@ -105,7 +105,7 @@ fn small_parts(a: u32, v: u16x16) -> u16x16
 {
     let upper = upper_products(a, v);
     let lower = lower_products(a, v);
-    upper + (short_saturated(upper, lower) >> 15)
+    upper + (add_short_saturating(upper, lower) >> 15)
 }
 
 /// A half of the plane's alphas, whose parts of numbers of 16 bits are taken in one way.
@@ -156,7 +156,7 @@ pub fn parts_of_products<H: AlphaHalf>(a: u32, v: u16x16) -> u8x16
     ensures { HasLanes result (λ i. (a * slice_index v i + 8355712) / opaque) }
 {
     let sums = H::parts(a, v) + u16x16::splat(128);
-    packed(upper_products(unfolded(257, a), sums))
+    pack(upper_products(hide(257, a), sums))
 }
 
 /// 0 where one vector is above another, else 255.
@@ -178,15 +178,15 @@ pub fn short_downwards(to: u16x16, from: u16x16) -> u8x16
 
 /// The channels `b`, moved so far: up where `down` is 0, to 255 at most, and down where it is 255. Downwards goes what a channel
 /// lacks of 255 upwards.
-pub fn shifted(down: u8x16, b: u8x16, by: u8x16) -> u8x16
+pub fn shift(down: u8x16, b: u8x16, by: u8x16) -> u8x16
     requires { IsTest down }
     ensures { HasLanes result (λ i. moved 1 (slice_index down i) (slice_index b i) (slice_index by i)) }
 {
-    turned(down, saturated(turned(down, b), by))
+    turn(down, add_saturating(turn(down, b), by))
 }
 
 /// The channels `b` where `down` is 0, and what they lack of 255 where it is 255.
-fn turned(down: u8x16, b: u8x16) -> u8x16
+fn turn(down: u8x16, b: u8x16) -> u8x16
     requires { IsTest down }
     ensures { HasLanes result (λ i. if nat_lt (slice_index down i) 1 then slice_index b i else 255 - slice_index b i) }
 {
@@ -229,7 +229,7 @@ fn as_short_bytes(v: u16x16) -> u8x16
 }
 
 /// The same where LLVM knows no bound of the lanes. Signed lanes that are bounded so are packed by one instruction.
-fn packed(v: u16x16) -> u8x16
+fn pack(v: u16x16) -> u8x16
     requires { IsAtMost 255 v }
     ensures { HasLanes result (λ i. slice_index v i) }
 {

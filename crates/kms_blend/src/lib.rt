@@ -95,7 +95,7 @@ fn blend_block<M: BlendMode>(a: u32, q: &[u8], f: &[u8], b: &mut [u8], at: usize
     blend_lanes::<M>(a, q, f, lower).copy_to_slice(&mut b[at..]);
 }
 
-/// The channels that show at 16 places. The alpha's half is read off its 16 bits, so that LLVM learns nothing of those above (`unfolded`).
+/// The channels that show at 16 places. The alpha's half is read off its 16 bits, so that LLVM learns nothing of those above (`hide`).
 fn blend_lanes<M: BlendMode>(a: u32, q: u8x16, f: u8x16, b: u8x16) -> u8x16
     requires { a ≤ 65535 }
     ensures { HasLanes result (λ i.

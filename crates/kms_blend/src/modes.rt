@@ -4,7 +4,7 @@ ghost use Rattle.kms_model.specs.Frames.FrameBytes.{blended, opaque};
 ghost use Rattle.kms_blend.specs.Lanes.{HasLanes};
 
 use crate::lanes::{
-    AlphaHalf, distances, downwards, parts_of_bytes, parts_of_products, products, shifted,
+    AlphaHalf, distances, downwards, parts_of_bytes, parts_of_products, products, shift,
     short_distances, short_downwards, weighted_by_pixels, wholes,
 };
 use crate::quotients::over_opaque;
@@ -59,14 +59,14 @@ impl BlendMode for Premultiplied {
     ghost number = { 0 };
 
     fn blend(a: u32, q: u32, f: u32, b: u32) -> u32 {
-        weighted(a * 255, a * q, f, b)
+        weigh(a * 255, a * q, f, b)
     }
 
     fn blend_lanes<H: AlphaHalf>(a: u32, q: u8x16, f: u8x16, b: u8x16) -> u8x16 {
         let shown = wholes(a, f);
         let hidden = products(q, b);
         let by = parts_of_products::<H>(a, short_distances(shown, hidden));
-        shifted(short_downwards(shown, hidden), b, by)
+        shift(short_downwards(shown, hidden), b, by)
     }
 
     fn blend_opaque(q: u8x16, f: u8x16, b: u8x16) -> u8x16 {
@@ -78,12 +78,12 @@ impl BlendMode for Coverage {
     ghost number = { 1 };
 
     fn blend(a: u32, q: u32, f: u32, b: u32) -> u32 {
-        weighted(a * q, a * q, f, b)
+        weigh(a * q, a * q, f, b)
     }
 
     fn blend_lanes<H: AlphaHalf>(a: u32, q: u8x16, f: u8x16, b: u8x16) -> u8x16 {
         let by = parts_of_products::<H>(a, products(q, distances(f, b)));
-        shifted(downwards(f, b), b, by)
+        shift(downwards(f, b), b, by)
     }
 
     fn blend_opaque(q: u8x16, f: u8x16, b: u8x16) -> u8x16 {
@@ -95,11 +95,11 @@ impl BlendMode for PlaneAlphaOnly {
     ghost number = { 2 };
 
     fn blend(a: u32, _q: u32, f: u32, b: u32) -> u32 {
-        weighted(a * 255, a * 255, f, b)
+        weigh(a * 255, a * 255, f, b)
     }
 
     fn blend_lanes<H: AlphaHalf>(a: u32, _q: u8x16, f: u8x16, b: u8x16) -> u8x16 {
-        shifted(downwards(f, b), b, parts_of_bytes(a, distances(f, b)))
+        shift(downwards(f, b), b, parts_of_bytes(a, distances(f, b)))
     }
 
     fn blend_opaque(_q: u8x16, f: u8x16, _b: u8x16) -> u8x16 {
@@ -110,7 +110,7 @@ impl BlendMode for PlaneAlphaOnly {
 /// The channel that shows where a layer with the weight `shown` lies over a lower one of which it hides
 /// the weight `hidden`, both out of `OPAQUE`. The sum is bounded before it is divided, so it needs no more
 /// than 32 bits.
-fn weighted(shown: u32, hidden: u32, f: u32, b: u32) -> u32
+fn weigh(shown: u32, hidden: u32, f: u32, b: u32) -> u32
     requires shown { shown ≤ opaque }
     requires hidden { hidden ≤ opaque }
     requires f { f ≤ 255 }

@@ -47,7 +47,7 @@ impl Fronts {
     }
 
     /// A copy.
-    pub fn copied(&self) -> Result<Fronts, AllocError>
+    pub fn copy(&self) -> Result<Fronts, AllocError>
         ensures { IfOk result (λ f. f ≡ self.now) }
     {
         Ok(Fronts {

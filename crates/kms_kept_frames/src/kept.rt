@@ -225,7 +225,7 @@ pub fn redraw<H: Hands>(
 }
 
 /// A copy of bytes.
-fn copied(alloc: Global, bytes: &[u8]) -> Result<Frame, NoMemory>
+fn copy_of(alloc: Global, bytes: &[u8]) -> Result<Frame, NoMemory>
     ensures { IfOk result (λ f. f ≡ bytes.now) }
 {
     let mut copy = Vec::with_capacity(alloc, bytes.len())?;
@@ -251,7 +251,7 @@ pub fn at_hand(
     drop(drawn);
     Ok(Drawn {
         picture: beside.picture,
-        frame: copied(alloc, beside.frame.as_slice())?,
-        fronts: beside.fronts.copied()?,
+        frame: copy_of(alloc, beside.frame.as_slice())?,
+        fronts: beside.fronts.copy()?,
     })
 }

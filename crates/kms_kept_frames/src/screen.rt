@@ -105,7 +105,7 @@ impl Screen {
     }
 
     /// What is kept of a picture that is one of the two.
-    pub fn kept(&self, picture: &Picture) -> &KeptFrame
+    pub fn frame_of(&self, picture: &Picture) -> &KeptFrame
         requires { Has self.now picture.now }
         ensures among { (result.now ≡ self.now.first) ⊎ (result.now ≡ self.now.second) }
         ensures own { result.now.drawn.picture ≡ picture.now }

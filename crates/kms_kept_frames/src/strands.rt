@@ -82,7 +82,7 @@ struct Sharing<'a> {
 
 impl<'a> Sharing<'a> {
     /// The picture of which a strand keeps the frame.
-    fn kept(&self, strand: Strand) -> &'a Picture {
+    fn picture_of(&self, strand: Strand) -> &'a Picture {
         match strand {
             Strand::First => self.first,
             Strand::Second => self.second,
@@ -101,10 +101,10 @@ impl<'a> Sharing<'a> {
     /// the one that did not get the last picture, but where that one keeps the next other picture.
     fn share(&mut self, crtc: u32, latch: &'a Latch, after: &[Latch]) {
         let picture = &latch.picture;
-        if !is_lit(latch, crtc) || is_same(self.kept(self.strand), picture) {
+        if !is_lit(latch, crtc) || is_same(self.picture_of(self.strand), picture) {
             return;
         }
-        let other = self.kept(self.strand.other());
+        let other = self.picture_of(self.strand.other());
         if is_same(other, picture) || !is_next(other, next_other(after, crtc, picture)) {
             self.strand = self.strand.other();
         }

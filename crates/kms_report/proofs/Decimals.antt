@@ -1,5 +1,6 @@
 -- The digits of a byte, and lines of numbers.
-use Rattle.std.proofs.Common.{◌≡◌, ◌<◌, ◌≤◌, ℕ, ◌+◌, ◌/◌, ◌%◌, List, [], ◌∷◌, ◌++◌, cond, nat_lt, get_or, refl, ap, sym, ◌∙◌, append_assoc, arith}
+use Rattle.std.proofs.Common.{◌≡◌, ◌<◌, ◌≤◌, ℕ, ◌+◌, ◌/◌, ◌%◌, List, [], ◌∷◌, ◌++◌, cond, nat_lt, get_or, refl, ap, sym, ◌∙◌, append_assoc}
+use Rattle.std.proofs.Common.{arith}
 use Rattle.std.specs.Prelude.{map}
 use Rattle.std.specs.Fmt.{decimal, digits}
 use Rattle.std.specs.List.{flat_map, range_with_len}
@@ -9,7 +10,8 @@ use Rattle.kms_model.specs.Report.TextLines.{line}
 
 -- one, two or three digits
 abbrev short : ℕ → List ℕ
-short n = cond (nat_lt n 10) ((48 + n % 10) ∷ []) (cond (nat_lt n 100) ((48 + n / 10 % 10) ∷ (48 + n % 10) ∷ []) ((48 + n / 100) ∷ (48 + n / 10 % 10) ∷ (48 + n % 10) ∷ []))
+short n = cond (nat_lt n 10) ((48 + n % 10) ∷ [])
+    (cond (nat_lt n 100) ((48 + n / 10 % 10) ∷ (48 + n % 10) ∷ []) ((48 + n / 100) ∷ (48 + n / 10 % 10) ∷ (48 + n % 10) ∷ []))
 
 all_short : map decimal (range_with_len 0 256) ≡ map short (range_with_len 0 256)
 unfolding digits
@@ -35,10 +37,12 @@ module _ (old : List ℕ) (n mark : ℕ) where
       let large = le-ltb n 10 l in
       let small = lt-ltb n 100 h in added ((48 + n / 10 % 10) ∷ (48 + n % 10) ∷ []) (decimal_is n (omega arith) ∙ rw (large, small) refl)
 
-  pub three_digits : 100 ≤ n → n < 256 → old ++ ((48 + n / 100) ∷ (48 + n / 10 % 10) ∷ (48 + n % 10) ∷ mark ∷ []) ≡ old ++ decimal n ++ mark ∷ []
+  pub three_digits : 100 ≤ n → n < 256 → old ++ ((48 + n / 100) ∷ (48 + n / 10 % 10) ∷ (48 + n % 10) ∷ mark ∷ []) ≡ old ++ decimal n ++ mark
+      ∷ []
   three_digits l h =
       let large = le-ltb n 10 (omega arith) in
-      let larger = le-ltb n 100 l in added ((48 + n / 100) ∷ (48 + n / 10 % 10) ∷ (48 + n % 10) ∷ []) (decimal_is n h ∙ rw (large, larger) refl)
+      let larger = le-ltb n 100 l in added ((48 + n / 100) ∷ (48 + n / 10 % 10) ∷ (48 + n % 10) ∷ [])
+      (decimal_is n h ∙ rw (large, larger) refl)
 
 -- numbers with a blank behind each
 abbrev pub spaced : List ℕ → List ℕ

@@ -1,5 +1,6 @@
 -- The images of a picture's framebuffers, and the length of its frame.
-use Rattle.std.proofs.Common.{◌≡◌, ℕ, ◌+◌, ◌*◌, ◌<◌, Bool, true, false, cond, eqb, List, [], ◌∷◌, ◌++◌, length, get_or, take, Option, Some, None, refl, sym, ap, ◌∙◌, subst}
+use Rattle.std.proofs.Common.{◌≡◌, ℕ, ◌+◌, ◌*◌, ◌<◌, Bool, true, false, cond, eqb, List, [], ◌∷◌, ◌++◌, length, get_or, take, Option, Some}
+use Rattle.std.proofs.Common.{None, refl, sym, ap, ◌∙◌, subst}
 use Rattle.std.proofs.Math.Nat.{mul_comm, mul_assoc}
 use Rattle.std.proofs.lemmas.Bool.{eq-eqb, cond-true, cond-false, eqb-true}
 use Rattle.std.proofs.lemmas.List.Elements.{All-push, All-head, All-tail, All-more, All-weaker}
@@ -35,7 +36,8 @@ here_or_behind false x y z one other = other refl
 
 seen_last : (things : List Thing) (old : List FbImage) (i : FbImage) → AreImagesIn things old → IsImageIn things i
     → seen_under (old ++ i ∷ []) i.fb ≡ image_of things i.fb
-seen_last things [] i images found = here_or_behind (eqb i.fb i.fb) (Some (image_seen i.image)) None (image_of things i.fb) (λ is. sym found) (λ other. absurd (let same : eqb i.fb i.fb ≡ true = eq-eqb i.fb i.fb refl in cc))
+seen_last things [] i images found = here_or_behind (eqb i.fb i.fb) (Some (image_seen i.image)) None (image_of things i.fb)
+    (λ is. sym found) (λ other. absurd (let same : eqb i.fb i.fb ≡ true = eq-eqb i.fb i.fb refl in cc))
 seen_last things (j ∷ js) i images found =
     here_or_behind (eqb j.fb i.fb) (Some (image_seen j.image)) (seen_under (js ++ i ∷ []) i.fb) (image_of things i.fb)
     (λ is. sym (All-head (IsImageIn things) j js images) ∙ ap (image_of things) (eqb-true j.fb i.fb is))

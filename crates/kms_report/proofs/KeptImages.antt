@@ -1,5 +1,6 @@
 -- Images to which more are added, and what is kept over images and over the things of a machine.
-use Rattle.std.proofs.Common.{◌≡◌, ◌⊎◌, inl, inr, ℕ, Bool, true, false, cond, eqb, List, [], ◌∷◌, ◌++◌, Option, Some, Result, Ok, Err, refl, sym, ap, ◌∙◌, subst}
+use Rattle.std.proofs.Common.{◌≡◌, ◌⊎◌, inl, inr, ℕ, Bool, true, false, cond, eqb, List, [], ◌∷◌, ◌++◌, Option, Some, Result, Ok, Err, refl}
+use Rattle.std.proofs.Common.{sym, ap, ◌∙◌, subst}
 use Rattle.std.specs.Prelude.{IfOk}
 use Rattle.std.proofs.lemmas.Bool.{cond-true, cond-false, eqb-true}
 use Rattle.std.proofs.lemmas.List.Elements.{All-head, All-tail}
@@ -57,7 +58,11 @@ shown-still old new (On p) keeps can = λ k d within.
 
 pub kept-still : (old new : List FbImage) (s : Screen) → KeepsImages old new → ShowsKept old s → ShowsKept new s
 kept-still old new s keeps shows =
-    record { one = shown-still old new s.first.drawn.picture keeps shows.one; other = shown-still old new s.second.drawn.picture keeps shows.other }
+    record {
+      one = shown-still old new s.first.drawn.picture keeps shows.one;
+      other = shown-still old new s.second.drawn.picture keeps
+          shows.other;
+    }
 
 -- Over images and over things
 
@@ -92,7 +97,15 @@ can-be-shown things images (On p) are can = λ k d within.
 module _ (things : List Thing) (images : List FbImage) (are : AreImagesIn things images) where
   kept_over : (k : KeptFrame) → CanShow images k.drawn.picture → IsKeptFrameOf things k → IsKeptFrameOver images k
   kept_over k can kept =
-      record { drawn = record { can = can; exact = kept.drawn.exact ∙ sym (frame_same things images k.drawn.picture can are); fronts = kept.drawn.fronts }; digest = kept.digest }
+      record {
+        drawn = record {
+          can = can;
+          exact = kept.drawn.exact ∙ sym (frame_same things images k.drawn.picture can are);
+          fronts =
+              kept.drawn.fronts;
+        };
+        digest = kept.digest;
+      }
 
   kept_of : (k : KeptFrame) → IsKeptFrameOver images k → IsKeptFrameOf things k
   kept_of k kept =
@@ -106,12 +119,17 @@ module _ (things : List Thing) (images : List FbImage) (are : AreImagesIn things
       }
 
   pub over-images : (s : Screen) → ShowsKept images s → AreKeptFramesOf things s → AreKeptFramesOver images s
-  over-images s shows stands = record { first = kept_over s.first shows.one stands.first; second = kept_over s.second shows.other stands.second }
+  over-images s shows stands = record {
+    first = kept_over s.first shows.one stands.first;
+    second = kept_over s.second shows.other
+        stands.second;
+  }
 
   of_things : (s : Screen) → AreKeptFramesOver images s → AreKeptFramesOf things s
   of_things s stands = record { first = kept_of s.first stands.first; second = kept_of s.second stands.second }
 
-  pub showing-of : (r : Result Screen NoMemory) (p : Picture) → IfOk r (λ s. AreKeptFramesOver images s × Has s p) → IfOk r (λ s. AreKeptFramesOf things s × Has s p)
+  pub showing-of : (r : Result Screen NoMemory) (p : Picture) → IfOk r (λ s. AreKeptFramesOver images s × Has s p)
+      → IfOk r (λ s. AreKeptFramesOf things s × Has s p)
   showing-of (Ok s) p both = (of_things s both.0, both.1)
   showing-of (Err e) p both = both
 

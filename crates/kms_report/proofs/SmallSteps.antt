@@ -47,10 +47,14 @@ module _ (t : Topology) (device : IsDevice t) where
 module _ (s : Script) (device : IsDevice s.topology) (m : Machine) where
   may-small : (step : Step) → may s m step ≡ true → HasSmallIndex step
   unfolding may
-  may-small (Lock client kind index) h = small s.topology device kind index (lockable-there s.topology device kind index (and_parts (is_lockable s.topology kind index) _ h).0)
-  may-small (Write k kind index) h = small s.topology device kind index (and_parts (exists s.topology kind index) _ (and_parts (is_claimed m.device k) _ h).1).0
-  may-small (Flush k kind index) h = small s.topology device kind index (and_parts (exists s.topology kind index) _ (and_parts (is_all_written s.topology m.device k) _ h).1).0
-  may-small (Vblank kind index) h = small s.topology device kind index (crtc-there s.topology device kind index (and_parts (is_crtc_of s.topology kind index) _ h).0)
+  may-small (Lock client kind index) h = small s.topology device kind index
+      (lockable-there s.topology device kind index (and_parts (is_lockable s.topology kind index) _ h).0)
+  may-small (Write k kind index) h = small s.topology device kind index
+      (and_parts (exists s.topology kind index) _ (and_parts (is_claimed m.device k) _ h).1).0
+  may-small (Flush k kind index) h = small s.topology device kind index
+      (and_parts (exists s.topology kind index) _ (and_parts (is_all_written s.topology m.device k) _ h).1).0
+  may-small (Vblank kind index) h = small s.topology device kind index
+      (crtc-there s.topology device kind index (and_parts (is_crtc_of s.topology kind index) _ h).0)
   may-small _ h = no_index
 
   legal-small : (step : Step) → legal s m step ≡ true → HasSmallIndex step

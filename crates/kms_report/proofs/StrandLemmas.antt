@@ -1,5 +1,6 @@
 -- The digests of a strand, one latch after the other.
-use Rattle.std.proofs.Common.{◌≡◌, ◌<◌, ◌≤◌, ◌+◌, ◌++◌, ◌∷◌, ℕ, Bool, true, false, List, [], drop, take, get_or, length, refl, sym, ap, ◌∙◌, append_assoc}
+use Rattle.std.proofs.Common.{◌≡◌, ◌<◌, ◌≤◌, ◌+◌, ◌++◌, ◌∷◌, ℕ, Bool, true, false, List, [], drop, take, get_or, length, refl, sym, ap, ◌∙◌}
+use Rattle.std.proofs.Common.{append_assoc}
 use Rattle.std.proofs.lemmas.List.{append-nil, drop_all, drop_more}
 use Rattle.kms_model.specs.declared.runs.Latch.{Latch}
 use Rattle.kms_model.specs.declared.worlds.Thing.{Thing}
@@ -12,10 +13,12 @@ use Rattle.kms_report.specs.Strands.{Begins, strand_digests, latch_digests}
 use Rattle.kms_report.proofs.Pieces.{latches-join, one_more as one_piece_more}
 
 -- those from a place on are that of the latch there, and those behind it
-pub from_place : (things : List Thing) (crtc : ℕ) (strand : Strand) (latches : List Latch) (strands : List Strand) (k : ℕ) (l : Latch) (m : Strand)
+pub from_place : (things : List Thing) (crtc : ℕ) (strand : Strand) (latches : List Latch) (strands : List Strand) (k : ℕ) (l : Latch)
+    (m : Strand)
     → k < length latches → k < length strands
     → strand_digests things crtc strand (drop k latches) (drop k strands)
-    ≡ latch_digests things crtc (is_strand strand (get_or strands k m)) (get_or latches k l) ++ strand_digests things crtc strand (drop (k + 1) latches) (drop (k + 1) strands)
+    ≡ latch_digests things crtc (is_strand strand (get_or strands k m)) (get_or latches k l)
+    ++ strand_digests things crtc strand (drop (k + 1) latches) (drop (k + 1) strands)
 unfolding strand_digests
 from_place things crtc strand latches strands k l m within beside = rw (drop_more latches k l within, drop_more strands k m beside) refl
 
@@ -56,16 +59,20 @@ same_strand First = refl
 same_strand Second = refl
 
 -- those of a strand from a latch of it on begin with that of the latch
-pub own_first : (things : List Thing) (crtc : ℕ) (strand : Strand) (latches : List Latch) (strands : List Strand) (k : ℕ) (l : Latch) (m : Strand)
+pub own_first : (things : List Thing) (crtc : ℕ) (strand : Strand) (latches : List Latch) (strands : List Strand) (k : ℕ) (l : Latch)
+    (m : Strand)
     → k < length latches → k < length strands → get_or strands k m ≡ strand → (latch : Latch) → latch ≡ get_or latches k l
-    → Begins things crtc latch (strand_digests things crtc strand (drop k latches) (drop k strands)) (strand_digests things crtc strand (drop (k + 1) latches) (drop (k + 1) strands))
+    → Begins things crtc latch (strand_digests things crtc strand (drop k latches) (drop k strands))
+    (strand_digests things crtc strand (drop (k + 1) latches) (drop (k + 1) strands))
 own_first things crtc strand latches strands k l m within beside own latch is =
     from_place things crtc strand latches strands k l m within beside ∙ rw (own, same_strand strand, is) refl
 
 -- those of a strand from a latch of the other one on are those from the next latch on
-pub other_first : (things : List Thing) (crtc : ℕ) (strand : Strand) (latches : List Latch) (strands : List Strand) (k : ℕ) (l : Latch) (m : Strand)
+pub other_first : (things : List Thing) (crtc : ℕ) (strand : Strand) (latches : List Latch) (strands : List Strand) (k : ℕ) (l : Latch)
+    (m : Strand)
     → k < length latches → k < length strands → is_strand strand (get_or strands k m) ≡ false
-    → strand_digests things crtc strand (drop k latches) (drop k strands) ≡ strand_digests things crtc strand (drop (k + 1) latches) (drop (k + 1) strands)
+    → strand_digests things crtc strand (drop k latches) (drop k strands)
+    ≡ strand_digests things crtc strand (drop (k + 1) latches) (drop (k + 1) strands)
 other_first things crtc strand latches strands k l m within beside other =
     from_place things crtc strand latches strands k l m within beside ∙ rw other refl
 

@@ -27,13 +27,16 @@ pub grown : (t0 t1 t2 t3 t4 t5 t6 t7 a b c d e f g : List ℕ) → t0 ≡ [] →
 grown t0 t1 t2 t3 t4 t5 t6 t7 a b c d e f g e0 e1 e2 e3 e4 e5 e6 e7 = rw (e7, e6, e5, e4, e3, e2, e1, e0) (simp append_assoc)
 
 module _ (s : Script) (h : List Step) (o : history.Options) where
-  pub journal_piece : flat_map entry_text (map (λ (e : Entry). (e.client, e.command)) (journal (at s h))) ≡ flat_map history.entry_line (journal (at s h))
+  pub journal_piece : flat_map entry_text (map (λ (e : Entry). (e.client, e.command)) (journal (at s h)))
+      ≡ flat_map history.entry_line (journal (at s h))
   journal_piece = flat_map-map entry_text (λ (e : Entry). (e.client, e.command)) (journal (at s h))
 
-  pub freed_piece : flat_map (freed_text s.names) (map (λ (thing : Thing). (thing.label, thing.id)) (freed s h)) ≡ flat_map (history.freed_thing_line s.names) (freed s h)
+  pub freed_piece : flat_map (freed_text s.names) (map (λ (thing : Thing). (thing.label, thing.id)) (freed s h))
+      ≡ flat_map (history.freed_thing_line s.names) (freed s h)
   freed_piece = flat_map-map (freed_text s.names) (λ (thing : Thing). (thing.label, thing.id)) (freed s h)
 
-  pub events_piece : ((client : ℕ) → read_by (at s h) client ≡ events_told client (replies (at s h))) → flat_map (events_text (replies (at s h))) (client_numbers s) ≡ flat_map (history.event_lines (at s h)) (client_numbers s)
+  pub events_piece : ((client : ℕ) → read_by (at s h) client ≡ events_told client (replies (at s h)))
+      → flat_map (events_text (replies (at s h))) (client_numbers s) ≡ flat_map (history.event_lines (at s h)) (client_numbers s)
   events_piece told = λ i. flat_map (λ client. flat_map (history.event_line client) (sym (told client) i)) (client_numbers s)
 
   -- the sections in their order are the report
@@ -56,9 +59,12 @@ module _ (s : Script) (h : List Step) (o : history.Options) where
       ++ history.if_wanted o.trace (flat_map history.step_line h))))))
 
   -- the same of what was told
-  pub whole-told : (pairs framebuffers : List (ℕ × ℕ)) (answers again : List Answered) (latches : List Latch) (clients crtcs : ℕ) (names : List (List ℕ))
-      → pairs ≡ map (λ (e : Entry). (e.client, e.command)) (journal (at s h)) → answers ≡ replies (at s h) → latches ≡ reverse (at s h).records.latches → again ≡ replies (at s h)
-      → framebuffers ≡ map (λ (thing : Thing). (thing.label, thing.id)) (freed s h) → clients ≡ length s.clients → crtcs ≡ s.topology.crtcs → names ≡ s.names
+  pub whole-told : (pairs framebuffers : List (ℕ × ℕ)) (answers again : List Answered) (latches : List Latch) (clients crtcs : ℕ)
+      (names : List (List ℕ))
+      → pairs ≡ map (λ (e : Entry). (e.client, e.command)) (journal (at s h)) → answers ≡ replies (at s h) → latches
+      ≡ reverse (at s h).records.latches → again ≡ replies (at s h)
+      → framebuffers ≡ map (λ (thing : Thing). (thing.label, thing.id)) (freed s h) → clients ≡ length s.clients → crtcs ≡ s.topology.crtcs
+      → names ≡ s.names
       → ((client : ℕ) → read_by (at s h) client ≡ events_told client (replies (at s h)))
       → flat_map entry_text pairs
       ++ (flat_map (section_text Replies answers) (range_with_len 1 clients)

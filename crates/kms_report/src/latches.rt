@@ -96,7 +96,7 @@ fn push_latch<H: Hands>(
         return Ok(screen);
     };
     let screen = show_latch(hands, alloc, after.core, screen, latch, after.latches)?;
-    let kept = screen.kept(&latch.picture);
+    let kept = screen.frame_of(&latch.picture);
     push_frame(
         alloc,
         text,

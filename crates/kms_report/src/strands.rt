@@ -40,7 +40,7 @@ fn push_digest<H: Hands>(
         return Ok(screen);
     }
     let screen = show_latch(hands, alloc, told.core, screen, latch, &[])?;
-    digests.push(screen.kept(&latch.picture).digest)?;
+    digests.push(screen.frame_of(&latch.picture).digest)?;
     Ok(screen)
 }
 

@@ -1,5 +1,6 @@
 -- A device that is turned off: the first request is accepted in a sound world, and after it nothing is on.
-use Rattle.std.proofs.Common.{◌≡◌, ℕ, ◌<◌, Bool, true, false, cond, List, [], ◌∷◌, ◌++◌, length, get_or, pos, Option, Some, None, inl, inr, refl, sym, ap, ◌∙◌, subst, arith}
+use Rattle.std.proofs.Common.{◌≡◌, ℕ, ◌<◌, Bool, true, false, cond, List, [], ◌∷◌, ◌++◌, length, get_or, pos, Option, Some, None, inl, inr}
+use Rattle.std.proofs.Common.{refl, sym, ap, ◌∙◌, subst, arith}
 use Rattle.std.specs.Prelude.{◌&&◌, ◌||◌, ◌==◌, filter, is_none, is_some, nat_lt, not}
 use Rattle.std.specs.Ordering.{int_eq}
 use Rattle.std.specs.List.{list_any}
@@ -28,7 +29,9 @@ use Rattle.kms_model.specs.Firsts.{number_if}
 use Rattle.kms_model.specs.Frames.Pictures.{picture}
 use Rattle.kms_model.specs.Order.Suspending.{off_request}
 use Rattle.kms_model.specs.Request.Apply.{after, is_kept}
-use Rattle.kms_model.specs.Request.Checks.{clone_refusal_at, conn_refusal_at, conns_on, crtc_refusal_at, has_crtc, is_active, late_refusal, plane_refusal, plane_refusal_at, plane_refusal_with, route_refusal_at, shown_refusal, shown_refusal_at, with_ids}
+use Rattle.kms_model.specs.Request.Checks.{clone_refusal_at, conn_refusal_at, conns_on, crtc_refusal_at, has_crtc, is_active, late_refusal}
+use Rattle.kms_model.specs.Request.Checks.{plane_refusal, plane_refusal_at, plane_refusal_with, route_refusal_at, shown_refusal}
+use Rattle.kms_model.specs.Request.Checks.{shown_refusal_at, with_ids}
 use Rattle.kms_model.specs.Request.Flags.{allows_modeset, wants_event}
 use Rattle.kms_model.specs.Request.Lookups.{look_up}
 use Rattle.kms_model.specs.Request.Named.{differs, names, needs_modeset}
@@ -38,7 +41,8 @@ use Rattle.kms_model.specs.Request.Verdict.{verdict}
 use Rattle.kms_model.specs.Script.Assigning.{conn_off, crtc_off, plane_off, unset}
 use Rattle.kms_model.proofs.ApplyLemmas.{number_or, value-apply}
 use Rattle.kms_model.proofs.HeldValues.{filter-in}
-use Rattle.kms_model.proofs.Items.{IsIn, first_some-none, ids-has, ids-in, none-number_if, number_if-none, or_else-none, or_else-nones, with_ids-has}
+use Rattle.kms_model.proofs.Items.{IsIn, first_some-none, ids-has, ids-in, none-number_if, number_if-none, or_else-none, or_else-nones}
+use Rattle.kms_model.proofs.Items.{with_ids-has}
 use Rattle.kms_model.proofs.SeenLemmas.{conns-in, planes-in}
 use Rattle.kms_model.proofs.StandsLemmas.{thing_numbered-zero}
 use Rattle.kms_model.proofs.TouchedLemmas.{accepts}

@@ -1,5 +1,6 @@
 -- A device that is brought back: the second request is accepted where the first one was done, and all is as it was before.
-use Rattle.std.proofs.Common.{◌≡◌, ◌≢◌, ℕ, ◌+◌, ◌<◌, Bool, true, false, cond, List, [], ◌∷◌, ◌++◌, ℤ, pos, Option, Some, None, inl, inr, refl, sym, ap, ◌∙◌, subst, arith}
+use Rattle.std.proofs.Common.{◌≡◌, ◌≢◌, ℕ, ◌+◌, ◌<◌, Bool, true, false, cond, List, [], ◌∷◌, ◌++◌, ℤ, pos, Option, Some, None, inl, inr}
+use Rattle.std.proofs.Common.{refl, sym, ap, ◌∙◌, subst, arith}
 use Rattle.std.specs.Prelude.{◌==◌, ◌||◌, filter, is_some, not, if◌then◌else◌}
 use Rattle.std.specs.List.{All, list_any}
 use Rattle.std.specs.Ordering.{int_eq}
@@ -12,8 +13,10 @@ use Rattle.kms_model.specs.declared.objects.Mode.{Mode}
 use Rattle.kms_model.specs.declared.objects.Topology.{Topology}
 use Rattle.kms_model.specs.declared.pictures.FbInfo.{FbInfo}
 use Rattle.kms_model.specs.declared.pictures.Picture.TheVariants.{Off, On}
-use Rattle.kms_model.specs.declared.properties.TheConstants.{ACTIVE, ALPHA, BLEND, CRTC_H, CRTC_ID, CRTC_W, CRTC_X, CRTC_Y, FB_ID, GAMMA_LUT, MODE_ID, SRC_H, SRC_W, SRC_X, SRC_Y, ZPOS}
-use Rattle.kms_model.specs.declared.replies.TheConstants.Refusal.{CRTC_NOT_POSSIBLE, DESTINATION_TOO_FAR, FORMAT_NOT_SUPPORTED, SOURCE_OUTSIDE_FRAMEBUFFER}
+use Rattle.kms_model.specs.declared.properties.TheConstants.{ACTIVE, ALPHA, BLEND, CRTC_H, CRTC_ID, CRTC_W, CRTC_X, CRTC_Y, FB_ID}
+use Rattle.kms_model.specs.declared.properties.TheConstants.{GAMMA_LUT, MODE_ID, SRC_H, SRC_W, SRC_X, SRC_Y, ZPOS}
+use Rattle.kms_model.specs.declared.replies.TheConstants.Refusal.{CRTC_NOT_POSSIBLE, DESTINATION_TOO_FAR, FORMAT_NOT_SUPPORTED}
+use Rattle.kms_model.specs.declared.replies.TheConstants.Refusal.{SOURCE_OUTSIDE_FRAMEBUFFER}
 use Rattle.kms_model.specs.declared.scripts.Request.{Request}
 use Rattle.kms_model.specs.declared.scripts.Value.{Value}
 use Rattle.kms_model.specs.declared.scripts.Value.TheVariants.{Num}
@@ -40,7 +43,8 @@ use Rattle.kms_model.specs.Firsts.{refused_if}
 use Rattle.kms_model.specs.Frames.Pictures.{layers_of, picture, picture_in, put_plane, seen_on, shown_with}
 use Rattle.kms_model.specs.Frames.Rectangles.{fits_source}
 use Rattle.kms_model.specs.Frames.Shown.{AreFramed}
-use Rattle.kms_model.specs.Order.Suspending.{closed_object, conn_back, crtc_back, crtc_of, framebuffer_label, has_crtc_at, has_mode_at, labelled, mode_label, off_request, on_request, plane_back}
+use Rattle.kms_model.specs.Order.Suspending.{closed_object, conn_back, crtc_back, crtc_of, framebuffer_label, has_crtc_at, has_mode_at}
+use Rattle.kms_model.specs.Order.Suspending.{labelled, mode_label, off_request, on_request, plane_back}
 use Rattle.kms_model.specs.Request.Apply.{after, id_in, is_kept, number_of}
 use Rattle.kms_model.specs.Request.Checks.{has_crtc, is_active, is_beyond, placed_refusal, plane_refusal, plane_refusal_with, switches_crtc}
 use Rattle.kms_model.specs.Request.Lookups.{look_of, look_of_blob, look_of_content, look_up}
@@ -60,7 +64,8 @@ use Rattle.kms_suspend.specs.Parts.{is_in_use, part}
 use Rattle.kms_suspend.proofs.Asleep.{assigns_are, in_order, off_conn, off_crtc, off_plane}
 use Rattle.kms_suspend.proofs.LastValues.{value-unset}
 use Rattle.kms_suspend.proofs.Names.{framebuffer_named, mode_named}
-use Rattle.kms_suspend.proofs.Settable.{AreFine, active_fine, all_fine, and_fine, append_fine, conn_crtc_fine, fb_fine, mode_fine, none_fine, plane_crtc_fine}
+use Rattle.kms_suspend.proofs.Settable.{AreFine, active_fine, all_fine, and_fine, append_fine, conn_crtc_fine, fb_fine, mode_fine}
+use Rattle.kms_suspend.proofs.Settable.{none_fine, plane_crtc_fine}
 use Rattle.kms_suspend.proofs.WholeLasts.{at_conn, at_first, at_last, at_none}
 use Rattle.kms_suspend.proofs.Wholes.{back_parts}
 

@@ -14,7 +14,9 @@ use Rattle.kms_model.specs.Device.Sound.{IsCrtcOrNone, IsSound}
 use Rattle.kms_model.specs.Device.Sound.IsCrtcOrNone.{IsCrtc, IsNone}
 use Rattle.kms_model.specs.Device.States.{crtc_at, mode_at, plane_at}
 use Rattle.kms_model.specs.Firsts.{number_if}
-use Rattle.kms_model.specs.Request.Checks.{clone_refusal_at, conn_refusal, conn_refusal_at, conns_on, crtc_refusal_at, is_active, late_refusal, plane_refusal, plane_refusal_at, route_refusal_at, shown_refusal, shown_refusal_at, with_ids}
+use Rattle.kms_model.specs.Request.Checks.{clone_refusal_at, conn_refusal, conn_refusal_at, conns_on, crtc_refusal_at, is_active}
+use Rattle.kms_model.specs.Request.Checks.{late_refusal, plane_refusal, plane_refusal_at, route_refusal_at, shown_refusal, shown_refusal_at}
+use Rattle.kms_model.specs.Request.Checks.{with_ids}
 use Rattle.kms_model.specs.Request.Named.{differs, names, needs_modeset}
 use Rattle.kms_model.proofs.HeldValues.{plain_held-from}
 use Rattle.kms_model.proofs.Items.{IsIn, filter-same, first_some-none, ids-has, none-number_if, number_if-none, or_else-none, or_else-nones}

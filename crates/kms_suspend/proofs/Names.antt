@@ -23,7 +23,8 @@ use Rattle.kms_model.specs.Device.States.{framebuffer_in, framebuffer_of, mode_a
 use Rattle.kms_model.specs.Device.World.{thing_labelled, thing_numbered, value}
 use Rattle.kms_model.specs.Frames.Shown.{AreFramed, FramesIn}
 use Rattle.kms_model.specs.Machine.Histories.{label_of_thing}
-use Rattle.kms_model.specs.Order.Suspending.{closed_object, framebuffer_label, has_crtc_at, has_mode_at, lacks_framebuffer, lacks_mode, mode_label, names_mode, open_label, open_mode_label}
+use Rattle.kms_model.specs.Order.Suspending.{closed_object, framebuffer_label, has_crtc_at, has_mode_at, lacks_framebuffer, lacks_mode}
+use Rattle.kms_model.specs.Order.Suspending.{mode_label, names_mode, open_label, open_mode_label}
 use Rattle.kms_model.specs.Request.Lookups.{look_of, look_of_content, look_up}
 use Rattle.kms_model.specs.Request.Sets.{mode_of_look}
 use Rattle.kms_model.proofs.CrtcLemmas.{all_in}

@@ -17,7 +17,8 @@ use Rattle.kms_model.specs.declared.worlds.World.{World}
 use Rattle.kms_model.specs.Device.Execution.{make_out_fence, make_out_fences}
 use Rattle.kms_model.specs.Device.Objects.{ids_of}
 use Rattle.kms_model.specs.Firsts.{or_else}
-use Rattle.kms_model.specs.Order.Suspending.{conn_back, crtc_back, has_crtc_at, has_mode_at, indices_where, off_request, on_request, plane_back}
+use Rattle.kms_model.specs.Order.Suspending.{conn_back, crtc_back, has_crtc_at, has_mode_at, indices_where, off_request, on_request}
+use Rattle.kms_model.specs.Order.Suspending.{plane_back}
 use Rattle.kms_model.specs.Request.Apply.{object_of, prop_of}
 use Rattle.kms_model.specs.Machine.State.{Commit}
 use Rattle.kms_model.specs.Request.Lookups.{look_up}

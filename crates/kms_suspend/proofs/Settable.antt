@@ -15,7 +15,8 @@ use Rattle.kms_model.specs.declared.worlds.Look.{Look}
 use Rattle.kms_model.specs.Device.Objects.{count_of}
 use Rattle.kms_model.specs.Device.Sound.{IsDevice}
 use Rattle.kms_model.specs.Request.Apply.{object_of, prop_of}
-use Rattle.kms_model.specs.Request.Refusals.{assign_refusal, assigns_refusal, has_property, is_immutable, is_of_kind, is_value, own_refusal, names_fence}
+use Rattle.kms_model.specs.Request.Refusals.{assign_refusal, assigns_refusal, has_property, is_immutable, is_of_kind, is_value, own_refusal}
+use Rattle.kms_model.specs.Request.Refusals.{names_fence}
 use Rattle.kms_model.specs.Script.Assigning.{conn_off, crtc_off, plane_off}
 use Rattle.kms_model.specs.Script.Generated.{assigns_to}
 use Rattle.kms_model.specs.Script.Words.{between}

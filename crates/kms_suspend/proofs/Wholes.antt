@@ -8,7 +8,8 @@ use Rattle.kms_model.specs.declared.objects.Topology.{Topology}
 use Rattle.kms_model.specs.declared.worlds.World.{World}
 use Rattle.kms_model.specs.Device.Objects.{ids_of, indices_of, object_id}
 use Rattle.kms_model.specs.Firsts.{or_else}
-use Rattle.kms_model.specs.Order.Suspending.{closed_object, conn_back, crtc_back, has_crtc_at, has_mode_at, indices_where, lacks_framebuffer, lacks_mode, modeset, off_request, on_request, plane_back}
+use Rattle.kms_model.specs.Order.Suspending.{closed_object, conn_back, crtc_back, has_crtc_at, has_mode_at, indices_where}
+use Rattle.kms_model.specs.Order.Suspending.{lacks_framebuffer, lacks_mode, modeset, off_request, on_request, plane_back}
 use Rattle.kms_model.specs.Script.Assigning.{conn_off, crtc_off, plane_off}
 use Rattle.kms_suspend.specs.declared.parts.Way.TheVariants.{Off, Back}
 use Rattle.kms_suspend.specs.Parts.{id_of, lacks_label, part}

@@ -10,7 +10,8 @@ use Rattle.kms_model.specs.declared.scripts.Assign.{Assign}
 use Rattle.kms_model.specs.declared.states.Duplicates.{Duplicates}
 use Rattle.kms_model.specs.declared.worlds.World.{World}
 use Rattle.kms_model.specs.Device.Objects.{count_of, object_id}
-use Rattle.kms_model.specs.Order.Suspending.{closed_object, conn_back, crtc_back, framebuffer_label, has_crtc_at, has_mode_at, mode_label, plane_back}
+use Rattle.kms_model.specs.Order.Suspending.{closed_object, conn_back, crtc_back, framebuffer_label, has_crtc_at, has_mode_at, mode_label}
+use Rattle.kms_model.specs.Order.Suspending.{plane_back}
 use Rattle.kms_model.specs.Request.Sets.{obj_id}
 use Rattle.kms_model.specs.Script.Assigning.{conn_off, crtc_off, plane_off}
 use Rattle.kms_core.specs.Decisions.{world}

@@ -5,7 +5,7 @@ ghost use Rattle.kms_core.specs.Decisions.{world};
 ghost use Rattle.kms_suspend.specs.Parts.{ArePresentOf, assigns_at, back_of, off_of, part, part_at};
 
 use crate::using::{
-    active_number, conn_state, count_of, is_in_use, label_for, labelled, plane_state,
+    active_number, conn_state, count_of, is_in_use, label_for, plane_state, value_of_label,
 };
 use kms_core::Core;
 use kms_model::properties::{ACTIVE, CRTC_ID, FB_ID, MODE_ID};
@@ -72,7 +72,7 @@ fn push_back(
 {
     match kind {
         Kind::Crtc => {
-            let mode = labelled(label_for(core, states, kind, index));
+            let mode = value_of_label(label_for(core, states, kind, index));
             let active = Value::Num(active_number(core, states, index));
             push_two(
                 assigns,
@@ -81,7 +81,7 @@ fn push_back(
             )
         }
         Kind::Plane => {
-            let fb = labelled(label_for(core, states, kind, index));
+            let fb = value_of_label(label_for(core, states, kind, index));
             let crtc = Value::Crtc(ObjId(plane_state(states, index).crtc).index());
             push_two(
                 assigns,

@@ -30,7 +30,7 @@ fn go_on(alloc: Global, core: &mut Core, steps: &[Step]) -> Result<(), NoMemory>
 }
 
 /// The machine of a longer script behind a history of it, gone on with to the end.
-fn woken(alloc: Global, longer: Longer) -> Result<Core, NoMemory>
+fn wake(alloc: Global, longer: Longer) -> Result<Core, NoMemory>
     requires formed { IsWellFormed longer.script }
     requires history { is_history longer.script longer.steps ≡ true }
     ensures script { IfOk result (λ core. core.script ≡ longer.script) }
@@ -59,5 +59,5 @@ pub fn sleep_and_wake(alloc: Global, core: Core) -> Result<Core, ResumeError>
     longer_scripts_are_well_formed();
     kms_laws::histories_stay();
     devices_sleep_and_wake();
-    Ok(woken(alloc, longer)?)
+    Ok(wake(alloc, longer)?)
 }

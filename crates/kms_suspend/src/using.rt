@@ -122,7 +122,7 @@ pub fn label_for(core: &Core, states: &Duplicates, kind: Kind, index: u32) -> Op
 }
 
 /// A label as a value. Where there is none, something is closed, and nothing is brought back.
-pub fn labelled(label: Option<u32>) -> Value
+pub fn value_of_label(label: Option<u32>) -> Value
     ensures { result ≡ labelled label }
 {
     Value::Named(label.unwrap_or(0))

@@ -1,5 +1,6 @@
 -- The images of framebuffers.
-use Rattle.std.proofs.Common.{◌≡◌, ℕ, ◌+◌, ◌<◌, true, false, List, [], ◌∷◌, Option, Some, None, eqb, refl, sym, ap, ◌∙◌, subst, inl, inr, arith}
+use Rattle.std.proofs.Common.{◌≡◌, ℕ, ◌+◌, ◌<◌, true, false, List, [], ◌∷◌, Option, Some, None, eqb, refl, sym, ap, ◌∙◌, subst, inl, inr}
+use Rattle.std.proofs.Common.{arith}
 use Rattle.std.specs.Prelude.{IfNone, IfSome}
 use Rattle.std.specs.List.{AllByRecursion, cons_option}
 use Rattle.std.specs.Option.{option_map}
@@ -42,7 +43,8 @@ option_apart id at owner content.OutFence rest e = refl
 -- no buffer has a lower id
 none_below : (n id : ℕ) (ts : List Thing) → AreNumbered n ts → id < n → value_with_id (buffers_of ts) id ≡ None
 none_below n id [] numbered lt = refl
-none_below n id (t ∷ ts) numbered lt = option_apart id t.id t.owner t.content (buffers_of ts) (apart_below n t.id id numbered.0 lt) ∙ none_below (n + 1) id ts numbered.1 (omega arith)
+none_below n id (t ∷ ts) numbered lt = option_apart id t.id t.owner t.content (buffers_of ts) (apart_below n t.id id numbered.0 lt) ∙
+    none_below (n + 1) id ts numbered.1 (omega arith)
 
 option_here : (id at owner : ℕ) (c : Content) (rest : List (Slot Buffer)) → eqb at id ≡ true → value_with_id rest id ≡ None
     → option_map seen (value_with_id (cons_option (store.buffer_in at owner c) rest) id) ≡ seen_in c
@@ -61,7 +63,8 @@ seen_of_things n id (t ∷ ts) numbered =
       | inl here ↦ (
           let none = none_below (n + 1) id ts numbered.1 (let e = here.1 in omega (arith, numbered.0, e)) in
           rw here.0 (option_here id t.id t.owner t.content (buffers_of ts) here.0 none))
-      | inr away ↦ rw away.0 (ap (option_map seen) (option_apart id t.id t.owner t.content (buffers_of ts) away.0) ∙ seen_of_things (n + 1) id ts numbered.1)
+      | inr away ↦ rw away.0 (ap (option_map seen) (option_apart id t.id t.owner t.content (buffers_of ts) away.0) ∙ seen_of_things (n + 1)
+          id ts numbered.1)
     ]
 
 -- the image of a framebuffer is what others read of its buffer
@@ -97,7 +100,8 @@ has_image ts next ids buffers fb t info of kept at is none =
     let framed : FramesIn ts t.id t.content = found_framed ts ts fb t kept.framed at in
     let f = subst (λ c. FramesIn ts t.id c) is framed in
     let b = f.own_buffer in
-    let seen : (thing_with_id ts of >>= seen_of) ≡ None = sym (ap (λ bs. seen_with_id bs of) kept.words ∙ seen_of_things 1000 of ts kept.numbered) ∙ none in
+    let seen : (thing_with_id ts of >>= seen_of) ≡ None = sym
+    (ap (λ bs. seen_with_id bs of) kept.words ∙ seen_of_things 1000 of ts kept.numbered) ∙ none in
     seen_some b.0.id b.0.content _ b.1.1 (rw b.1.0 at seen)
 
 pub if_none : {X : Type 0} (o : Option X) (P Q : Type 0) → (P → Q) → IfNone o P → IfNone o Q

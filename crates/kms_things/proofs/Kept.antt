@@ -1,5 +1,6 @@
 -- What is kept beside the things stays so as things are made and closed.
-use Rattle.std.proofs.Common.{◌≡◌, ℕ, ◌+◌, ◌<◌, ◌≤◌, Bool, true, false, List, [], ◌∷◌, ◌++◌, length, Option, Some, None, Result, Ok, Err, eqb, refl, sym, ap, ◌∙◌, subst, inl, inr, arith}
+use Rattle.std.proofs.Common.{◌≡◌, ℕ, ◌+◌, ◌<◌, ◌≤◌, Bool, true, false, List, [], ◌∷◌, ◌++◌, length, Option, Some, None, Result, Ok, Err}
+use Rattle.std.proofs.Common.{eqb, refl, sym, ap, ◌∙◌, subst, inl, inr, arith}
 use Rattle.std.specs.Prelude.{nat_lt}
 use Rattle.std.specs.List.{cons_option}
 use Rattle.std.proofs.lemmas.Bool.Decides.{nat_tests, eqb_tells}
@@ -50,12 +51,21 @@ kept_made ts next ids more buffers t kept is wordless framed indexed = record {
 }
 
 -- a buffer more, with its words
-pub kept_buffer : (ts : List Thing) (next : ℕ) (ids more : Ids) (buffers : List (Slot Buffer)) (label owner width height : ℕ) (format : Format) (pattern : Pattern)
+pub kept_buffer : (ts : List Thing) (next : ℕ) (ids more : Ids) (buffers : List (Slot Buffer)) (label owner width height : ℕ)
+    (format : Format) (pattern : Pattern)
     → AreKept ts next ids buffers
-    → let t : Thing = record { label = label; id = next; owner = owner; content = content.Buffer width height format pattern; is_open = true } in
-    IsIndex more (ts ++ t ∷ []) → AreKept (ts ++ t ∷ []) (next + 1) more (buffers ++ slot next (buffer owner width height format pattern) ∷ [])
+    → let t : Thing = record {
+      label = label;
+      id = next;
+      owner = owner;
+      content = content.Buffer width height format pattern;
+      is_open = true;
+    } in
+    IsIndex more (ts ++ t ∷ []) → AreKept (ts ++ t ∷ []) (next + 1) more
+    (buffers ++ slot next (buffer owner width height format pattern) ∷ [])
 kept_buffer ts next ids more buffers label owner width height format pattern kept indexed =
-    let t : Thing = record { label = label; id = next; owner = owner; content = content.Buffer width height format pattern; is_open = true } in
+    let t : Thing = record { label = label; id = next; owner = owner; content = content.Buffer width height format pattern; is_open = true }
+    in
     record {
       numbered = numbered-push 1000 ts t kept.numbered kept.next;
       next = length_more next ts t kept.next;
@@ -70,10 +80,11 @@ below_option n None bs one below = below
 below_option n (Some s) bs one below = (one s refl, below)
 
 slot_id : (id owner : ℕ) (c : Content) (s : Slot Buffer) → buffer_in id owner c ≡ Some s → s.id ≡ id
-slot_id id owner (content.Buffer width height format pattern) s e = let P : Option (Slot Buffer) → ℕ = λ o. of_option o in sym (ap P e) where
-  of_option : Option (Slot Buffer) → ℕ
-  of_option None = 0
-  of_option (Some x) = x.id
+slot_id id owner (content.Buffer width height format pattern) s e = let P : Option (Slot Buffer) → ℕ = λ o. of_option o
+    in sym (ap P e) where
+      of_option : Option (Slot Buffer) → ℕ
+      of_option None = 0
+      of_option (Some x) = x.id
 slot_id id owner (content.Framebuffer info of) s e = absurd cc
 slot_id id owner (content.Mode m) s e = absurd cc
 slot_id id owner (content.Blob bytes) s e = absurd cc
@@ -113,7 +124,8 @@ indexed_closed id label [] = refl
 indexed_closed id label (t ∷ ts) =
     let same = closed_same id t in
     elim (eqb_tells t.label label) [
-      | inl here ↦ (let e : eqb (closed_if id t).label label ≡ true = rw same.label here.0 in rw (e, here.0) (ap (λ (n : ℕ). Some n) same.id))
+      | inl here ↦ (let e : eqb (closed_if id t).label label ≡ true = rw same.label here.0
+          in rw (e, here.0) (ap (λ (n : ℕ). Some n) same.id))
       | inr away ↦ (let e : eqb (closed_if id t).label label ≡ false = rw same.label away.0 in rw (e, away.0) (indexed_closed id label ts))
     ]
 
@@ -121,7 +133,8 @@ words_closed : (id : ℕ) (ts : List Thing) → buffers_of (closed_in ts id) ≡
 words_closed id [] = refl
 words_closed id (t ∷ ts) =
     let same = closed_same id t in
-    let one : buffer_in (closed_if id t).id (closed_if id t).owner (closed_if id t).content ≡ buffer_in t.id t.owner t.content = rw (same.id, same.owner, same.content) refl in
+    let one : buffer_in (closed_if id t).id (closed_if id t).owner (closed_if id t).content
+    ≡ buffer_in t.id t.owner t.content = rw (same.id, same.owner, same.content) refl in
     rw (one, words_closed id ts) refl
 
 -- a thing that is closed
@@ -168,7 +181,8 @@ pub kept_fence : (ts : List Thing) (next : ℕ) (ids more : Ids) (buffers : List
     → let t : Thing = record { label = label; id = next; owner = owner; content = content.OutFence; is_open = true } in
     IsIndex more (ts ++ t ∷ []) → AreKept (ts ++ t ∷ []) (next + 1) more buffers
 kept_fence ts next ids more buffers label owner kept indexed =
-    kept_made ts next ids more buffers (record { label = label; id = next; owner = owner; content = content.OutFence; is_open = true }) kept refl (λ id of. refl) tt indexed
+    kept_made ts next ids more buffers (record { label = label; id = next; owner = owner; content = content.OutFence; is_open = true }) kept
+    refl (λ id of. refl) tt indexed
 
 -- the index in another order of its entries
 pub kept_reordered : (ts : List Thing) (next : ℕ) (ids more : Ids) (buffers : List (Slot Buffer)) → AreKept ts next ids buffers

@@ -1,5 +1,6 @@
 -- Things that are numbered in the order of making stand at the places that their ids say.
-use Rattle.std.proofs.Common.{◌≡◌, ℕ, zero, suc, ◌+◌, ◌-◌, ◌≤◌, ◌<◌, Bool, true, false, cond, List, [], ◌∷◌, ◌++◌, length, Option, Some, None, eqb, refl, sym, ap, ◌∙◌, subst, inl, inr, arith, Bor, set}
+use Rattle.std.proofs.Common.{◌≡◌, ℕ, zero, suc, ◌+◌, ◌-◌, ◌≤◌, ◌<◌, Bool, true, false, cond, List, [], ◌∷◌, ◌++◌, length, Option, Some}
+use Rattle.std.proofs.Common.{None, eqb, refl, sym, ap, ◌∙◌, subst, inl, inr, arith, Bor, set}
 use Rattle.std.specs.Prelude.{slice_get, MatchOption, IfSome, option_copied}
 use Rattle.std.specs.Option.{option_map}
 use Rattle.std.proofs.Math.ListN.{get_or}
@@ -92,7 +93,8 @@ mapped_else None false t = refl
 pub indexed_more : (ids more : Ids) (ts : List Thing) (t : Thing) → IsIndex ids ts
     → ((q : ℕ) → id_under more q ≡ or_else (id_under ids q) (cond (eqb t.label q) (Some t.id) None)) → IsIndex more (ts ++ t ∷ [])
 indexed_more ids more ts t indexed noted =
-    λ q. noted q ∙ ap (λ o. or_else o (cond (eqb t.label q) (Some t.id) None)) (indexed q) ∙ mapped_else (thing_labelled ts q) (eqb t.label q) t ∙ ap (option_map (λ (u : Thing). u.id)) (sym (labelled_more q ts t))
+    λ q. noted q ∙ ap (λ o. or_else o (cond (eqb t.label q) (Some t.id) None)) (indexed q) ∙ mapped_else (thing_labelled ts q)
+    (eqb t.label q) t ∙ ap (option_map (λ (u : Thing). u.id)) (sym (labelled_more q ts t))
 
 -- no thing has a lower id, and so none is closed
 pub closed_below : (n id : ℕ) (ts : List Thing) → AreNumbered n ts → id < n → ts ≡ closed_in ts id

@@ -1,5 +1,6 @@
 -- The framebuffers that something refers to, as things are made and closed.
-use Rattle.std.proofs.Common.{◌≡◌, ℕ, ◌+◌, ◌<◌, ◌≤◌, Bool, true, false, List, [], ◌∷◌, ◌++◌, Option, Some, None, Result, Ok, Err, refl, sym, ap, ◌∙◌, subst, inl, inr, arith, append-nil}
+use Rattle.std.proofs.Common.{◌≡◌, ℕ, ◌+◌, ◌<◌, ◌≤◌, Bool, true, false, List, [], ◌∷◌, ◌++◌, Option, Some, None, Result, Ok, Err, refl, sym}
+use Rattle.std.proofs.Common.{ap, ◌∙◌, subst, inl, inr, arith, append-nil}
 use Rattle.std.specs.Prelude.{◌==◌, ◌&&◌}
 use Rattle.std.specs.Option.{option_and_then, option_map}
 use Rattle.std.proofs.lemmas.Bool.Decides.{eqb_tells}
@@ -15,7 +16,8 @@ use Rattle.kms_model.specs.Device.Execution.{destroy_refusal, is_blob}
 use Rattle.kms_model.specs.Device.Sound.{AreNumbered}
 use Rattle.kms_model.specs.Device.World.{thing_with_id}
 use Rattle.kms_model.specs.Frames.Shown.{FramesIn}
-use Rattle.kms_model.specs.Things.Kept.{after_close, after_give, after_take, closed, fbs_closed, fbs_given, fbs_taken, may_close, with_fewer}
+use Rattle.kms_model.specs.Things.Kept.{after_close, after_give, after_take, closed, fbs_closed, fbs_given, fbs_taken, may_close}
+use Rattle.kms_model.specs.Things.Kept.{with_fewer}
 use Rattle.kms_model.specs.Things.OpenThings.{denial, open_value, things_after, value_if_open}
 use Rattle.kms_model.specs.Things.Tables.{AreBelow, put_in, value_with_id, with_value, without_id}
 use Rattle.kms_model.proofs.OpenLemmas.{closed_values, found_open}
@@ -57,7 +59,8 @@ below_without n id (s ∷ fbs) below = elim (eqb_tells s.id id) [
 ]
 
 below_fewer : (n id : ℕ) (fb : Framebuffer) (fbs : List (Slot Framebuffer)) → AreBelow n fbs → AreBelow n (with_fewer fbs id fb)
-below_fewer n id fb fbs below = cond_holds (λ xs. AreBelow n xs) (fb.references == 0) (without_id fbs id) (with_value fbs id fb) (below_without n id fbs below) (below_with n id fb fbs below)
+below_fewer n id fb fbs below = cond_holds (λ xs. AreBelow n xs) (fb.references == 0) (without_id fbs id) (with_value fbs id fb)
+    (below_without n id fbs below) (below_with n id fb fbs below)
 
 below_close : (n owner id : ℕ) (fbs : List (Slot Framebuffer)) (o : Option Framebuffer) → AreBelow n fbs
     → AreBelow n (after_close fbs owner id o)
@@ -120,7 +123,8 @@ no_fb_at (Some t) is = no_fb t.is_open t t.content refl refl (cc is)
 pub referred_destroyed : (things : List Thing) (next : ℕ) (fbs : List (Slot Framebuffer)) (id : ℕ) → AreNumbered 1000 things
     → IsBlobAt things id → AreReferred things next fbs → AreReferred (closed_in things id) next fbs
 referred_destroyed things next fbs id numbered blob referred =
-    let none : value_with_id (open_fbs_of things) id ≡ None = found_open fb_of_content 1000 id things numbered ∙ no_fb_at (thing_with_id things id) blob in
+    let none : value_with_id (open_fbs_of things) id
+    ≡ None = found_open fb_of_content 1000 id things numbered ∙ no_fb_at (thing_with_id things id) blob in
     record { below = referred.below; same = closed_values fb_of_content id things ∙ absent (open_fbs_of things) id none ∙ referred.same }
 
 closed_ok : {A : Type 0} (R : Result A Denied) (things : List Thing) (id : ℕ) → denial R ≡ None

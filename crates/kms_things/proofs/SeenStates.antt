@@ -41,16 +41,24 @@ plane_same t xs ys values index alike lt = plane-seen t xs ys values (object_id 
 old_seen : (t : Topology) (xs ys : List Thing) (values : List Setting) (d : Duplicates) → AreSeenAlike t xs ys values → IsWhole t d
     → AgreesOld t xs values d → AgreesOld t ys values d
 old_seen t xs ys values d alike whole old = record {
-  crtcs = old_same t.crtcs (λ index. crtc_state_at t xs values (object_id kind.Crtc index)) (λ index. crtc_state_at t ys values (object_id kind.Crtc index)) d.crtcs whole.crtcs (λ index lt. crtc_same t xs ys values index alike lt) old.crtcs;
-  planes = old_same (count_of t kind.Plane) (λ index. plane_at xs values (object_id kind.Plane index)) (λ index. plane_at ys values (object_id kind.Plane index)) d.planes whole.planes (λ index lt. plane_same t xs ys values index alike lt) old.planes;
+  crtcs = old_same t.crtcs (λ index. crtc_state_at t xs values (object_id kind.Crtc index))
+      (λ index. crtc_state_at t ys values (object_id kind.Crtc index)) d.crtcs whole.crtcs
+      (λ index lt. crtc_same t xs ys values index alike lt) old.crtcs;
+  planes = old_same (count_of t kind.Plane) (λ index. plane_at xs values (object_id kind.Plane index))
+      (λ index. plane_at ys values (object_id kind.Plane index)) d.planes whole.planes
+      (λ index lt. plane_same t xs ys values index alike lt) old.planes;
   conns = old.conns;
 }
 
 pub new_seen : (t : Topology) (xs ys : List Thing) (values : List Setting) (d : Duplicates) → AreSeenAlike t xs ys values → IsWhole t d
     → AgreesNew t xs values d → AgreesNew t ys values d
 new_seen t xs ys values d alike whole new = record {
-  crtcs = new_same t.crtcs (λ index. crtc_state_at t xs values (object_id kind.Crtc index)) (λ index. crtc_state_at t ys values (object_id kind.Crtc index)) d.crtcs whole.crtcs (λ index lt. crtc_same t xs ys values index alike lt) new.crtcs;
-  planes = new_same (count_of t kind.Plane) (λ index. plane_at xs values (object_id kind.Plane index)) (λ index. plane_at ys values (object_id kind.Plane index)) d.planes whole.planes (λ index lt. plane_same t xs ys values index alike lt) new.planes;
+  crtcs = new_same t.crtcs (λ index. crtc_state_at t xs values (object_id kind.Crtc index))
+      (λ index. crtc_state_at t ys values (object_id kind.Crtc index)) d.crtcs whole.crtcs
+      (λ index lt. crtc_same t xs ys values index alike lt) new.crtcs;
+  planes = new_same (count_of t kind.Plane) (λ index. plane_at xs values (object_id kind.Plane index))
+      (λ index. plane_at ys values (object_id kind.Plane index)) d.planes whole.planes
+      (λ index lt. plane_same t xs ys values index alike lt) new.planes;
   conns = new.conns;
 }
 
@@ -59,6 +67,8 @@ pub present_seen : (t : Topology) (w after : World) (d : Duplicates) → after.v
     → AreSeenAlike t w.things after.things w.values → IsPresent t w d → IsPresent t after d
 present_seen t w after d values alike present = record {
   whole = present.whole;
-  old = subst (λ vs. AgreesOld t after.things vs d) (sym values) (old_seen t w.things after.things w.values d alike present.whole present.old);
-  new = subst (λ vs. AgreesNew t after.things vs d) (sym values) (new_seen t w.things after.things w.values d alike present.whole present.new);
+  old = subst (λ vs. AgreesOld t after.things vs d) (sym values)
+      (old_seen t w.things after.things w.values d alike present.whole present.old);
+  new = subst (λ vs. AgreesNew t after.things vs d) (sym values)
+      (new_seen t w.things after.things w.values d alike present.whole present.new);
 }

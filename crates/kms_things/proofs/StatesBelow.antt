@@ -22,7 +22,11 @@ map-range_set {X} g h a (suc n) zero x lt is same =
     rw (head, map-range_same g h (a + 1) n (λ k le. same k (λ e. absurd (omega (arith, e, le, z))))) refl
 map-range_set {X} g h a (suc n) (suc i) x lt is same =
     let z : a + suc i ≡ a + 1 + i = omega arith in
-    rw (same a (λ e. absurd (omega (arith, e))), map-range_set g h (a + 1) n i x (omega arith) (is ∙ ap h z) (λ k ne. same k (λ e. ne (e ∙ z)))) refl
+    rw (
+      same a (λ e. absurd (omega (arith, e))),
+      map-range_set g h (a + 1) n i x (omega arith) (is ∙ ap h z)
+          (λ k ne. same k (λ e. ne (e ∙ z))),
+    ) refl
 
 one_more : {S : Type 0} (f : ℕ → S) (i k : ℕ) → k ≢ i
     → cond (nat_lt k i) (Some (alike (f k))) None ≡ cond (nat_lt k (i + 1)) (Some (alike (f k))) None
@@ -34,6 +38,7 @@ pub below_more : {S : Type 0} (room : ℕ) (f : ℕ → S) (i : ℕ) (x : Option
 below_more {S} room f i x lt is =
     let last : nat_lt i (i + 1) ≡ true = grind (arith, nat_tests) in
     let z : 0 + i ≡ i = omega arith in
-    map-range_set (λ index. cond (nat_lt index i) (Some (alike (f index))) None) (λ index. cond (nat_lt index (i + 1)) (Some (alike (f index))) None) 0 room i x lt
+    map-range_set (λ index. cond (nat_lt index i) (Some (alike (f index))) None)
+    (λ index. cond (nat_lt index (i + 1)) (Some (alike (f index))) None) 0 room i x lt
     (rw (z, last) is)
     (λ k ne. one_more f i k (λ e. ne (e ∙ sym z)))

@@ -1,5 +1,6 @@
 -- New states that become the present ones.
-use Rattle.std.proofs.Common.{◌≡◌, ℕ, zero, suc, ◌+◌, ◌<◌, List, [], ◌∷◌, ◌++◌, length, take, Option, Some, None, refl, sym, ap, ◌∙◌, arith, drop, set}
+use Rattle.std.proofs.Common.{◌≡◌, ℕ, zero, suc, ◌+◌, ◌<◌, List, [], ◌∷◌, ◌++◌, length, take, Option, Some, None, refl, sym, ap, ◌∙◌, arith}
+use Rattle.std.proofs.Common.{drop, set}
 use Rattle.std.proofs.Math.ListN.{get_or}
 use Rattle.std.proofs.lemmas.Grind.{common_steps}
 use Rattle.std.proofs.lemmas.List.Edits.{map_over_more}
@@ -35,7 +36,9 @@ is_some-alike (Some (Some both)) = refl
 
 swapped_whole : {S : Type 0} (count : ℕ) (states : List (Option (Both S))) → AreWhole count states → AreWhole count (swapped_states states)
 swapped_whole count states whole =
-    let same : (index : ℕ) → is_some (state_at (swapped_states states) index) ≡ is_some (state_at states index) = λ index. ap (λ o. is_some (option_flatten o)) (swapped_at states index) ∙ is_some-alike (slice_get states index) in
+    let same : (index : ℕ) → is_some (state_at (swapped_states states) index)
+    ≡ is_some (state_at states index) = λ index. ap (λ o. is_some (option_flatten o)) (swapped_at states index) ∙ is_some-alike
+    (slice_get states index) in
     record {
       there = λ index lt. same index ∙ whole.there index lt;
       only = λ index some. whole.only index (sym (same index) ∙ some);
@@ -66,7 +69,21 @@ swapped_new f states new index both at =
 pub swapped_present : (t : Topology) (w : World) (r : Request) (d : Duplicates) → IsAfter t w r d
     → IsPresent t (record w { values = after w r }) (swapped d)
 swapped_present t w r d is = record {
-  whole = record { crtcs = swapped_whole t.crtcs d.crtcs is.whole.crtcs; planes = swapped_whole (length t.planes) d.planes is.whole.planes; conns = swapped_whole (length t.conns) d.conns is.whole.conns };
-  old = record { crtcs = swapped_old _ d.crtcs is.new.crtcs; planes = swapped_old _ d.planes is.new.planes; conns = swapped_old _ d.conns is.new.conns };
-  new = record { crtcs = swapped_new _ d.crtcs is.new.crtcs; planes = swapped_new _ d.planes is.new.planes; conns = swapped_new _ d.conns is.new.conns };
+  whole = record {
+    crtcs = swapped_whole t.crtcs d.crtcs is.whole.crtcs;
+    planes = swapped_whole (length t.planes) d.planes is.whole.planes;
+    conns = swapped_whole (length t.conns) d.conns is.whole.conns;
+  };
+  old = record {
+    crtcs = swapped_old _ d.crtcs is.new.crtcs;
+    planes = swapped_old _ d.planes is.new.planes;
+    conns = swapped_old _ d.conns
+        is.new.conns;
+  };
+  new = record {
+    crtcs = swapped_new _ d.crtcs is.new.crtcs;
+    planes = swapped_new _ d.planes is.new.planes;
+    conns = swapped_new _ d.conns
+        is.new.conns;
+  };
 }

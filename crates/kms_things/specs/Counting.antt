@@ -15,7 +15,8 @@ use Rattle.kms_things.specs.Made.{Made}
 abbrev pub fbs_added : Made → ℕ → Option BufferInfo → List (Slot Framebuffer)
 fbs_added made client None = made.fbs
 fbs_added made client (Some b) =
-    made.fbs ++ slot made.next_id (framebuffer client b.id (record { id = made.next_id; width = b.width; height = b.height; format = b.format })) ∷ []
+    made.fbs ++ slot made.next_id (framebuffer client b.id
+    (record { id = made.next_id; width = b.width; height = b.height; format = b.format })) ∷ []
 
 -- one that is closed, unless a number refuses it, gives that reference back, and is out where it was the last
 abbrev pub fbs_without : Made → ℕ → Option Thing → Option ℕ → List (Slot Framebuffer)

@@ -51,9 +51,10 @@ pub record AreReferred (things : List Thing) (next_id : ℕ) (fbs : List (Slot F
   pub same : open_fbs_of things ≡ open_fbs fbs
 
 -- the same of all
-pub record IsStore (things : List Thing) (next_id : ℕ) (ids : Ids) (buffers : List (Slot Buffer)) (fbs : List (Slot Framebuffer)) : Type 0 where
-  pub kept : AreKept things next_id ids buffers
-  pub referred : AreReferred things next_id fbs
+pub record IsStore (things : List Thing) (next_id : ℕ) (ids : Ids) (buffers : List (Slot Buffer)) (fbs : List (Slot Framebuffer)) : Type 0
+  where
+    pub kept : AreKept things next_id ids buffers
+    pub referred : AreReferred things next_id fbs
 
 -- neither a buffer nor a framebuffer
 pub record IsPlain (c : Content) : Type 0 where

@@ -56,7 +56,7 @@ impl Things {
     pub fn look(&self, label: u32) -> Look
         ensures { result ≡ look_of (thing_labelled self.now.things label) }
     {
-        match self.labelled(label) {
+        match self.thing_labelled(label) {
             None => Look::Missing,
             Some(thing) if thing.is_open => look_of_content(thing.id, &thing.content),
             Some(_) => Look::Closed,
@@ -67,7 +67,7 @@ impl Things {
     pub fn look_any(&self, label: u32) -> Look
         ensures { result ≡ look_of_any (thing_labelled self.now.things label) }
     {
-        match self.labelled(label) {
+        match self.thing_labelled(label) {
             None => Look::Missing,
             Some(thing) => look_of_content(thing.id, &thing.content),
         }

@@ -22,7 +22,7 @@ pub fn new_framebuffer(things: &Things, client: u32, label: u32) -> Option<(FbIn
     ensures value { result ≡ new_framebuffer things.now client label }
     ensures framed { IfSome result (λ f. IsFramed things.now.things things.now.next_id f.0 f.1) }
 {
-    let thing = things.labelled(label)?;
+    let thing = things.thing_labelled(label)?;
     if thing.owner != client {
         return None;
     }
@@ -74,7 +74,7 @@ fn destroy(things: &mut Things, client: u32, label: u32) -> Reply
         → destroy (with_made w things.old) client (thing_labelled things.old.things label)
         ≡ record { world = with_made w things.new; reply = result } }
 {
-    let Some(thing) = things.labelled(label) else {
+    let Some(thing) = things.thing_labelled(label) else {
         return Reply::Denied(Denied::NOT_FOUND.0);
     };
     if let Some(number) = destroy_refusal(client, Some(thing)) {
@@ -94,7 +94,7 @@ fn close_fb(things: &mut Things, client: u32, label: u32) -> Reply
         → close_fb (with_made w things.old) client (thing_labelled things.old.things label)
         ≡ record { world = with_made w things.new; reply = result } }
 {
-    let Some(thing) = things.labelled(label) else {
+    let Some(thing) = things.thing_labelled(label) else {
         return Reply::Denied(Denied::NOT_FOUND.0);
     };
     if let Some(number) = close_refusal(client, Some(thing)) {
@@ -112,7 +112,7 @@ pub fn signal(things: &Things, label: u32) -> Reply
         (signal_refusal (thing_labelled things.now.things label))
         ≡ record { world = with_made w things.now; reply = result } }
 {
-    match signal_refusal(things.labelled(label)) {
+    match signal_refusal(things.thing_labelled(label)) {
         Some(number) => Reply::Denied(number),
         None => Reply::Done,
     }

@@ -67,9 +67,12 @@ impl Things {
             },
             Command::Destroy { label } => done_unless(destroy_refusal(
                 client,
-                self.labelled(*label),
+                self.thing_labelled(*label),
             )),
-            Command::CloseFb { label } => done_unless(close_refusal(client, self.labelled(*label))),
+            Command::CloseFb { label } => done_unless(close_refusal(
+                client,
+                self.thing_labelled(*label),
+            )),
             Command::Signal { label } => signal(self, *label),
             Command::Atomic(_) | Command::Wait => Reply::NoEvent,
         }

@@ -92,7 +92,7 @@ impl Things {
     }
 
     /// The thing that was made under a label, by its number from 0, open or closed.
-    pub fn labelled(&self, label: u32) -> Option<&Thing>
+    pub fn thing_labelled(&self, label: u32) -> Option<&Thing>
         ensures thing { option_copied result ≡ thing_labelled self.now.things label }
         ensures own_id { IfSome result (λ t. thing_with_id self.now.things t.now.id ≡ Some t.now) }
     {
@@ -292,7 +292,7 @@ impl Things {
 
     /// What the framebuffer with an id is that something refers to: its being open, or a reference that was taken. None
     /// exactly where nothing does.
-    pub fn stored(&self, fb: u32) -> Option<FbInfo>
+    pub fn stored_framebuffer(&self, fb: u32) -> Option<FbInfo>
         ensures { result ≡ option_map (λ held. held.info) (value_with_id self.now.fbs fb) }
     {
         self.fbs.info(fb)

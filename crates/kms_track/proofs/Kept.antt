@@ -1,12 +1,14 @@
 -- A commit is kept as before where nothing was done of it, and behind a further commit.
-use Rattle.std.proofs.Common.{◌≡◌, ℕ, ◌+◌, ◌<◌, ◌≤◌, List, [], ◌∷◌, length, Bool, true, Option, Some, None, inl, inr, arith, refl, sym, ap, ◌∙◌, subst}
+use Rattle.std.proofs.Common.{◌≡◌, ℕ, ◌+◌, ◌<◌, ◌≤◌, List, [], ◌∷◌, length, Bool, true, Option, Some, None, inl, inr, arith, refl, sym, ap}
+use Rattle.std.proofs.Common.{◌∙◌, subst}
 use Rattle.std.specs.Prelude.{◌||◌, not}
 use Rattle.std.specs.List.{list_all}
 use Rattle.kms_model.specs.declared.objects.Kind.TheVariants.{Crtc}
 use Rattle.kms_model.specs.declared.objects.Topology.{Topology}
 use Rattle.kms_model.specs.declared.runs.Latch.{Latch}
 use Rattle.kms_model.specs.Device.Objects.{ids_of}
-use Rattle.kms_model.specs.Machine.Commits.{commit_concerns, commit_touches, has_flipped, has_latched, has_number, has_pair, previous, previous_of}
+use Rattle.kms_model.specs.Machine.Commits.{commit_concerns, commit_touches, has_flipped, has_latched, has_number, has_pair, previous}
+use Rattle.kms_model.specs.Machine.Commits.{previous_of}
 use Rattle.kms_model.specs.Machine.State.{Commit, Marks}
 use Rattle.kms_model.proofs.CommitFacts.{commit_old, concerns_old, touches_old, waited_old}
 use Rattle.kms_model.proofs.Facts.{implied, implied_from}

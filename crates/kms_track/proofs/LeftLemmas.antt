@@ -1,5 +1,6 @@
 -- What a step takes of what is left.
-use Rattle.std.proofs.Common.{◌≡◌, ◌≢◌, ℕ, ◌+◌, ◌<◌, ◌≤◌, List, [], length, ◌∷◌, ◌++◌, ◌*◌, Bool, true, false, Option, None, Some, inl, inr, arith, refl, sym, ap, ◌∙◌}
+use Rattle.std.proofs.Common.{◌≡◌, ◌≢◌, ℕ, ◌+◌, ◌<◌, ◌≤◌, List, [], length, ◌∷◌, ◌++◌, ◌*◌, Bool, true, false, Option, None, Some, inl, inr}
+use Rattle.std.proofs.Common.{arith, refl, sym, ap, ◌∙◌}
 use Rattle.std.specs.Option.{IfSome, SomeIff}
 use Rattle.std.specs.Prelude.{◌&&◌, ◌||◌, not}
 use Rattle.std.proofs.lemmas.Bool.{eq-eqb, ne_eqb, false≢true}
@@ -12,7 +13,8 @@ use Rattle.kms_model.proofs.TableLemmas.{others_behind, with_value-absent, witho
 use Rattle.kms_track.specs.declared.progress.Mark.{Mark}
 use Rattle.kms_track.specs.declared.progress.Mark.TheVariants.{Claimed, WroteCrtc, WrotePlane, Flushed, Done, Latched}
 use Rattle.kms_track.specs.declared.tail.Tail.{Tail}
-use Rattle.kms_track.specs.Tails.{IsMark, all_left, count_below, is_latch_left, is_latch_off, is_left, is_step_left, marked_slots, marked_tail, on_after, steps_left, with_bit}
+use Rattle.kms_track.specs.Tails.{IsMark, all_left, count_below, is_latch_left, is_latch_off, is_left, is_step_left, marked_slots}
+use Rattle.kms_track.specs.Tails.{marked_tail, on_after, steps_left, with_bit}
 use Rattle.kms_track.proofs.Bits.{bit_more}
 use Rattle.kms_track.proofs.Counts.{count_low, count_same, one_less}
 

@@ -1,5 +1,6 @@
 -- What a tracker that stands for a machine answers, in the machine's words.
-use Rattle.std.proofs.Common.{◌≡◌, ℕ, ◌<◌, ◌≤◌, List, [], ◌∷◌, length, Bool, true, false, Some, None, cond, get_or, inl, inr, arith, refl, sym, ap, ◌∙◌}
+use Rattle.std.proofs.Common.{◌≡◌, ℕ, ◌<◌, ◌≤◌, List, [], ◌∷◌, length, Bool, true, false, Some, None, cond, get_or, inl, inr, arith, refl}
+use Rattle.std.proofs.Common.{sym, ap, ◌∙◌}
 use Rattle.std.specs.Prelude.{◌&&◌, ◌||◌, not, nat_lt, find, Option, if◌then◌else◌}
 use Rattle.std.specs.List.{list_all}
 use Rattle.std.proofs.lemmas.Bool.{cases_Bool, cases_lt, ltb-false, ltb-true}
@@ -12,7 +13,8 @@ use Rattle.kms_model.specs.declared.states.Mask.{Mask}
 use Rattle.kms_model.specs.Device.Masks.{has_bit}
 use Rattle.kms_model.specs.Device.Objects.{count_of}
 use Rattle.kms_model.specs.Firsts.{or_else, first_some}
-use Rattle.kms_model.specs.Machine.Commits.{commit_at, commit_concerns, commit_touches, has_flipped, has_latched, has_number, if_there, is_claimed, is_cleaned, is_hw_done, lockable, previous, waited_fences}
+use Rattle.kms_model.specs.Machine.Commits.{commit_at, commit_concerns, commit_touches, has_flipped, has_latched, has_number, if_there}
+use Rattle.kms_model.specs.Machine.Commits.{is_claimed, is_cleaned, is_hw_done, lockable, previous, waited_fences}
 use Rattle.kms_model.specs.Machine.Effects.{commit_numbered}
 use Rattle.kms_model.specs.Machine.State.{Commit, Machine}
 use Rattle.kms_model.specs.Machine.Steps as steps
@@ -26,7 +28,8 @@ use Rattle.kms_track.specs.InStep.{IsInStep, IsKept, IsTailOf, IsWithinPlaces, i
 use Rattle.kms_track.specs.MachineLaws.{busy_answer}
 use Rattle.kms_track.specs.Places.{crtc_id, is_side, mask_has, object_at_place, sides_at}
 use Rattle.kms_track.specs.Tails.{all_signalled, fence_ids, flipped_at, has_latched_at}
-use Rattle.kms_track.specs.Tracking.{Tracking, all_settled, busy_of, cleaned_of, done_of, flipped_of, is_gone, is_settled, last_at, ready_of, tail_of, tail_ready, unless, with_object}
+use Rattle.kms_track.specs.Tracking.{Tracking, all_settled, busy_of, cleaned_of, done_of, flipped_of, is_gone, is_settled, last_at}
+use Rattle.kms_track.specs.Tracking.{ready_of, tail_of, tail_ready, unless, with_object}
 use Rattle.kms_track.proofs.CheckedLemmas.{mask_on}
 use Rattle.kms_track.proofs.Kept.{all_alike}
 use Rattle.kms_track.proofs.Lockables.{all_crtcs, all_lockable, first_lockable}

@@ -63,10 +63,12 @@ module _ (t : Topology) (m : Machine) (v : Tracking) (stands : IsInStep t m v) (
       ∙ uncleaned_same _ (λ k found. second_within (length m.device.commits) (object_at_place i) k _ refl found) in
       rw (first, second) refl
 
-first_filtered : {A : Type 0} (p : ℕ → Bool) (g : ℕ → Option A) (xs : List ℕ) → first_some (λ x. if p x then g x else None) xs ≡ first_some g (filter p xs)
+first_filtered : {A : Type 0} (p : ℕ → Bool) (g : ℕ → Option A) (xs : List ℕ) → first_some (λ x. if p x then g x else None) xs
+    ≡ first_some g (filter p xs)
 first_filtered p g [] = refl
 first_filtered p g (x ∷ xs) =
-    elim (p x) as (λ b. or_else (if b then g x else None) (first_some (λ x. if p x then g x else None) xs) ≡ first_some g (cond b (x ∷ filter p xs) (filter p xs))) [
+    elim (p x) as (λ b. or_else (if b then g x else None) (first_some (λ x. if p x then g x else None) xs)
+    ≡ first_some g (cond b (x ∷ filter p xs) (filter p xs))) [
       | true ↦ ap (λ rest. or_else (g x) rest) (first_filtered p g xs)
       | false ↦ first_filtered p g xs
     ]
@@ -149,7 +151,8 @@ none_first t m (x ∷ xs) =
     ∙ ap (λ b. is_ready_at t m x && b) (none_first t m xs))
 
 -- `not_yet` answers none exactly where the CRTCs that a request names are ready for its swap.
-pub not_yet_machine : (t : Topology) (m : Machine) (v : Tracking) (r : Request) → IsInStep t m v → IsWithinPlaces t → is_none (not_yet_of v (named_by t m.device.world r)) ≡ steps.is_ready t m r
+pub not_yet_machine : (t : Topology) (m : Machine) (v : Tracking) (r : Request) → IsInStep t m v → IsWithinPlaces t
+    → is_none (not_yet_of v (named_by t m.device.world r)) ≡ steps.is_ready t m r
 unfolding steps.is_ready
 not_yet_machine t m v r step limits =
     ap (λ (o : Option (ObjId × ℕ)). is_none o) (awaited_told t m v r step limits) ∙ none_first t m (named t m.device.world r)

@@ -20,7 +20,8 @@ use Rattle.kms_track.specs.StepLaws.{HasNames}
 
 -- a commit names each CRTC that concerns an object which it touches
 abbrev names_at : Topology → DeviceState → ℕ → ℕ → ℕ → Bool
-names_at t d k object crtc = not (commit_touches t d.commits k object && commit_concerns t d.commits k object crtc) || commit_names t d.commits k crtc
+names_at t d k object crtc = not (commit_touches t d.commits k object && commit_concerns t d.commits k object crtc)
+    || commit_names t d.commits k crtc
 
 abbrev names_all : Topology → DeviceState → ℕ → Bool
 names_all t d k = list_all (λ object. list_all (names_at t d k object) (ids_of t Crtc)) (lockable t)
@@ -40,11 +41,13 @@ names_of t d holds =
     let one : length d.commits ≡ 1 = eqb-true (length d.commits) 1 outer.1 in
     record {
       done_claimed = λ k done. (let found : Passes (λ m. m == k) d.marks.done = list_any-some (λ m. m == k) d.marks.done done in
-          subst (λ n. is_claimed d n ≡ true) (eqb-true found.item k found.holds) (list_all-at (is_claimed d) d.marks.done found.item parts.0 found.is_in));
+          subst (λ n. is_claimed d n ≡ true) (eqb-true found.item k found.holds)
+          (list_all-at (is_claimed d) d.marks.done found.item parts.0 found.is_in));
       named = λ k object crtc within is is_crtc touched concerned. (let first : k ≡ 0 = omega (arith, within, one) in
           of_both (commit_touches t d.commits k object) (commit_concerns t d.commits k object crtc) (commit_names t d.commits k crtc)
           (subst (λ n. names_at t d n object crtc ≡ true) (sym first)
-          (list_all-at (names_at t d 0 object) (ids_of t Crtc) crtc (list_all-at (λ o. list_all (names_at t d 0 o) (ids_of t Crtc)) (lockable t) object parts.1 is) is_crtc)) touched concerned);
+          (list_all-at (names_at t d 0 object) (ids_of t Crtc) crtc
+          (list_all-at (λ o. list_all (names_at t d 0 o) (ids_of t Crtc)) (lockable t) object parts.1 is) is_crtc)) touched concerned);
     }
 
 -- a client makes a framebuffer and a mode, and lights the CRTC: its steps up to the vblank

@@ -15,7 +15,8 @@ unfolding first_below
 found_still f n zero x found = rw zero-add found
 found_still f n (suc more) x found = rw (suc-add, found_still f n more x found) refl
 
-pub first_found : {A : Type 0} (f : ℕ → Option A) (i n : ℕ) (x : A) → first_below f i ≡ None → f i ≡ Some x → i < n → first_below f n ≡ Some x
+pub first_found : {A : Type 0} (f : ℕ → Option A) (i n : ℕ) (x : A) → first_below f i ≡ None → f i ≡ Some x → i < n → first_below f n
+    ≡ Some x
 unfolding first_below
 first_found f i n x before here within =
     let at : first_below f (suc i) ≡ Some x = rw (before, here) refl in

@@ -6,7 +6,8 @@ pub last_is : (test : ℕ → Bool) (n j : ℕ) → last_below test n ≡ Some j
 unfolding last_below
 last_is test zero j found = cc
 last_is test (suc n) j found = of_test (test n) refl found (last_is test n j) where
-  of_test : (b : Bool) → test n ≡ b → cond b (Some n) (last_below test n) ≡ Some j → (last_below test n ≡ Some j → (j < n) × (test j ≡ true)) → (j < suc n) × (test j ≡ true)
+  of_test : (b : Bool) → test n ≡ b → cond b (Some n) (last_below test n) ≡ Some j
+      → (last_below test n ≡ Some j → (j < n) × (test j ≡ true)) → (j < suc n) × (test j ≡ true)
   of_test true is found before = (let same : n ≡ j = cc in (omega arith, rw (← same) is))
   of_test false is found before = (let fact = before found in (omega (arith, fact.0), fact.1))
 

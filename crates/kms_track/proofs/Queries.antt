@@ -17,7 +17,9 @@ use Rattle.kms_model.specs.Device.Masks.{has_bit}
 use Rattle.kms_model.specs.Device.Objects.{count_of, ids_of, object_id}
 use Rattle.kms_model.specs.Device.Sound.{IsDevice}
 use Rattle.kms_model.specs.Firsts.{or_else}
-use Rattle.kms_model.specs.Machine.Commits.{commit_at, commit_names, commit_touches, has_latched, has_pair, is_all_flushed, is_all_latched, is_all_written, new_connector, new_crtc, new_plane, new_values, old_plane, out_fence_of, registered}
+use Rattle.kms_model.specs.Machine.Commits.{commit_at, commit_names, commit_touches, has_latched, has_pair, is_all_flushed, is_all_latched}
+use Rattle.kms_model.specs.Machine.Commits.{is_all_written, new_connector, new_crtc, new_plane, new_values, old_plane, out_fence_of}
+use Rattle.kms_model.specs.Machine.Commits.{registered}
 use Rattle.kms_model.specs.Machine.State.{DeviceState}
 use Rattle.kms_model.specs.Machine.Steps.{next_flush, next_write}
 use Rattle.kms_model.specs.Request.Apply.{after}

@@ -1,18 +1,21 @@
 -- A tracker that follows each step of a machine stays in step with it.
-use Rattle.std.proofs.Common.{◌≡◌, ℕ, ◌<◌, ◌≤◌, List, [], ◌∷◌, length, Bool, true, false, Some, None, inl, inr, arith, refl, sym, ap, ◌∙◌, subst}
+use Rattle.std.proofs.Common.{◌≡◌, ℕ, ◌<◌, ◌≤◌, List, [], ◌∷◌, length, Bool, true, false, Some, None, inl, inr, arith, refl, sym, ap, ◌∙◌}
+use Rattle.std.proofs.Common.{subst}
 use Rattle.std.specs.Prelude.{◌&&◌, ◌||◌, find, not, nat_lt, if◌then◌else◌}
 use Rattle.std.proofs.lemmas.Bool.{and_parts, cases_lt, false≢true, ltb-true, ne_eqb}
 use Rattle.kms_model.specs.declared.objects.Kind.{Kind}
 use Rattle.kms_model.specs.declared.objects.Kind.TheVariants.{Crtc}
 use Rattle.kms_model.specs.declared.objects.Topology.{Topology}
 use Rattle.kms_model.specs.declared.replies.Step.{Step}
-use Rattle.kms_model.specs.declared.replies.Step.TheVariants.{Begin, Lock, BackOff, Relock, Refuse, Test, Swap, Make, Signal, Claim, Write, Flush, HwDone, Vblank, Cleanup, Read, Return, Stall}
+use Rattle.kms_model.specs.declared.replies.Step.TheVariants.{Begin, Lock, BackOff, Relock, Refuse, Test, Swap, Make, Signal, Claim, Write}
+use Rattle.kms_model.specs.declared.replies.Step.TheVariants.{Flush, HwDone, Vblank, Cleanup, Read, Return, Stall}
 use Rattle.kms_model.specs.declared.runs.Latch.{Latch}
 use Rattle.kms_model.specs.declared.scripts.Request.{Request}
 use Rattle.kms_model.specs.declared.scripts.Script.{Script}
 use Rattle.kms_model.specs.declared.states.Checked.{Checked}
 use Rattle.kms_model.specs.Device.Objects.{exists, ids_of, index_of, is_id_of, object_id}
-use Rattle.kms_model.specs.Machine.Commits.{commit_at, commit_concerns, commit_names, has_flipped, has_latched, has_pair, is_all_latched, is_all_written, is_claimed, is_hw_done, new_crtc, no_commit}
+use Rattle.kms_model.specs.Machine.Commits.{commit_at, commit_concerns, commit_names, has_flipped, has_latched, has_pair, is_all_latched}
+use Rattle.kms_model.specs.Machine.Commits.{is_all_written, is_claimed, is_hw_done, new_crtc, no_commit}
 use Rattle.kms_model.specs.Machine.Effects.{counts_vblank, latches, latches_picture, next}
 use Rattle.kms_model.specs.Machine.Histories.{legal}
 use Rattle.kms_model.specs.Machine.Registers.{decoded_picture, latched_registers}
@@ -30,7 +33,8 @@ use Rattle.kms_track.specs.InStep.{AreSignalsOf, IsCheckedFor, IsInStep, IsOver,
 use Rattle.kms_track.specs.StepLaws.{HasNames, commit_of_tail_step, waits_of}
 use Rattle.kms_track.specs.Tails.{HasRegisters, wrote_mark}
 use Rattle.kms_track.specs.Tracking.{IsSetUp, Tracking, marked}
-use Rattle.kms_track.proofs.Marking.{claimed_stands, cleaned_stands, done_stands, flushed_stands, latched_stands, wrote_crtc_stands, wrote_plane_stands}
+use Rattle.kms_track.proofs.Marking.{claimed_stands, cleaned_stands, done_stands, flushed_stands, latched_stands, wrote_crtc_stands}
+use Rattle.kms_track.proofs.Marking.{wrote_plane_stands}
 use Rattle.kms_track.proofs.SettingUp.{set_up_stands}
 use Rattle.kms_track.proofs.TailPlaces.{crtc_indexed, plane_indexed}
 

@@ -1,5 +1,6 @@
 -- What a search for the place of a number finds.
-use Rattle.std.proofs.Common.{◌≡◌, ℕ, zero, suc, ◌-◌, ◌<◌, ◌≤◌, length, List, [], ◌∷◌, get_or, Bool, true, false, Option, Some, None, inl, inr, arith, refl, sym, ap, ◌∙◌, subst, leb-true, ltb, ltb-true, ltb-false}
+use Rattle.std.proofs.Common.{◌≡◌, ℕ, zero, suc, ◌-◌, ◌<◌, ◌≤◌, length, List, [], ◌∷◌, get_or, Bool, true, false, Option, Some, None, inl}
+use Rattle.std.proofs.Common.{inr, arith, refl, sym, ap, ◌∙◌, subst, leb-true, ltb, ltb-true, ltb-false}
 use Rattle.std.specs.Prelude.{is_some, IsTrue, nat_le, nat_lt, slice_get, ◌&&◌, ◌||◌}
 use Rattle.std.specs.List.{AllByRecursion}
 use Rattle.std.specs.List.Sorted.{IsNonDecreasingBy, IsPartitionPoint}

@@ -20,7 +20,8 @@ where_there false there gone = gone refl
 
 -- an object of an index is on the device
 pub on_index : (t : Topology) (kind : Kind) (i : ℕ) → i < 100 → is_of_device t (object_id kind i) ≡ nat_lt i (count_of t kind)
-on_index t kind i few = ap (λ (k : Kind). nat_lt (index_of (object_id kind i)) (count_of t k)) (kind_of-object kind i few) ∙ ap (λ n. nat_lt n (count_of t kind)) (index_of-object kind i few)
+on_index t kind i few = ap (λ (k : Kind). nat_lt (index_of (object_id kind i)) (count_of t k)) (kind_of-object kind i few) ∙ ap
+    (λ n. nat_lt n (count_of t kind)) (index_of-object kind i few)
 
 pub on_place : (t : Topology) (p : ℕ) → p < 28 → is_of_device t (object_at_place p) ≡ is_there t p
 on_place t p place =
@@ -57,9 +58,13 @@ place_lockable t p place there =
       | inl crtc ↦ (let index : p < count_of t Crtc = ltb-true p (count_of t Crtc) (rw (lt-ltb p 4 crtc) at there) in
           rw (lt-ltb p 4 crtc) (in_left (ids_of t Crtc) (ids_of t Plane ++ ids_of t Conn) _ (ids-has t Crtc p index)))
       | inr other ↦ elim (cases_lt p 20) [
-        | inl plane ↦ (let index : p - 4 < count_of t Plane = ltb-true (p - 4) (count_of t Plane) (rw (le-ltb p 4 other, lt-ltb p 20 plane) at there) in
-            rw (le-ltb p 4 other, lt-ltb p 20 plane) (in_right (ids_of t Crtc) (ids_of t Plane ++ ids_of t Conn) _ (in_left (ids_of t Plane) (ids_of t Conn) _ (ids-has t Plane (p - 4) index))))
-        | inr conn ↦ (let index : p - 20 < count_of t Conn = ltb-true (p - 20) (count_of t Conn) (rw (le-ltb p 4 other, le-ltb p 20 conn) at there) in
-            rw (le-ltb p 4 other, le-ltb p 20 conn) (in_right (ids_of t Crtc) (ids_of t Plane ++ ids_of t Conn) _ (in_right (ids_of t Plane) (ids_of t Conn) _ (ids-has t Conn (p - 20) index))))
+        | inl plane ↦ (let index : p - 4 < count_of t Plane = ltb-true (p - 4) (count_of t Plane)
+            (rw (le-ltb p 4 other, lt-ltb p 20 plane) at there) in
+            rw (le-ltb p 4 other, lt-ltb p 20 plane) (in_right (ids_of t Crtc) (ids_of t Plane ++ ids_of t Conn) _
+            (in_left (ids_of t Plane) (ids_of t Conn) _ (ids-has t Plane (p - 4) index))))
+        | inr conn ↦ (let index : p - 20 < count_of t Conn = ltb-true (p - 20) (count_of t Conn)
+            (rw (le-ltb p 4 other, le-ltb p 20 conn) at there) in
+            rw (le-ltb p 4 other, le-ltb p 20 conn) (in_right (ids_of t Crtc) (ids_of t Plane ++ ids_of t Conn) _
+            (in_right (ids_of t Plane) (ids_of t Conn) _ (ids-has t Conn (p - 20) index))))
       ]
     ]

@@ -1,5 +1,6 @@
 -- When a tracker stands for what a machine has of its commits.
-use Rattle.std.specs.Prelude.{◌≡◌, ℕ, ◌-◌, ◌<◌, ◌≤◌, ◌&&◌, nat_lt, Bool, true, false, List, length, is_some, slice_index_or, Option, Some, None, if◌then◌else◌}
+use Rattle.std.specs.Prelude.{◌≡◌, ℕ, ◌-◌, ◌<◌, ◌≤◌, ◌&&◌, nat_lt, Bool, true, false, List, length, is_some, slice_index_or, Option, Some}
+use Rattle.std.specs.Prelude.{None, if◌then◌else◌}
 use Rattle.kms_model.specs.declared.objects.Kind.TheVariants.{Crtc, Plane, Conn}
 use Rattle.kms_model.specs.declared.objects.Topology.{Topology}
 use Rattle.kms_model.specs.declared.runs.Latch.{Latch}
@@ -10,7 +11,9 @@ use Rattle.kms_model.specs.declared.states.PlaneState.{PlaneState}
 use Rattle.kms_model.specs.Device.Masks.{has_bit}
 use Rattle.kms_model.specs.Device.Objects.{count_of, exists, index_of, kind_of, object_id}
 use Rattle.kms_model.specs.Device.Sound.{IsDevice}
-use Rattle.kms_model.specs.Machine.Commits.{commit_at, commit_touches, has_flipped, has_latched, has_number, has_pair, is_on_before_or_after, lockable, new_crtc, new_plane, old_plane, old_values, previous, second_previous, thing_made, waited_fences}
+use Rattle.kms_model.specs.Machine.Commits.{commit_at, commit_touches, has_flipped, has_latched, has_number, has_pair}
+use Rattle.kms_model.specs.Machine.Commits.{is_on_before_or_after, lockable, new_crtc, new_plane, old_plane, old_values, previous}
+use Rattle.kms_model.specs.Machine.Commits.{second_previous, thing_made, waited_fences}
 use Rattle.kms_model.specs.Machine.State.{Commit, DeviceState, Machine, Marks}
 use Rattle.kms_model.specs.Request.Agreement.{crtc_state_at}
 use Rattle.kms_model.specs.Request.Deciding.{IsChecked}

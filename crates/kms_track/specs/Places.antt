@@ -22,7 +22,8 @@ crtc_id i = object_id Crtc i
 
 -- it is in a set
 abbrev pub mask_has : Mask → ℕ → Bool
-mask_has mask p = if nat_lt p 4 then has_bit mask.crtcs p else (if nat_lt p 20 then has_bit mask.planes (p - 4) else has_bit mask.conns (p - 20))
+mask_has mask p = if nat_lt p 4 then has_bit mask.crtcs p
+    else (if nat_lt p 20 then has_bit mask.planes (p - 4) else has_bit mask.conns (p - 20))
 
 abbrev pub no_sides : Sides
 no_sides = record { old = 0; new = 0 }
@@ -39,7 +40,8 @@ connector_sides (Some both) = record { old = both.old.crtc; new = both.new.crtc 
 abbrev pub sides_at : Duplicates → ℕ → Sides
 sides_at states p =
     if nat_lt p 4 then record { old = object_id Crtc p; new = object_id Crtc p }
-    else (if nat_lt p 20 then plane_sides (slice_index_or states.planes (p - 4) None) else connector_sides (slice_index_or states.conns (p - 20) None))
+    else (if nat_lt p 20 then plane_sides (slice_index_or states.planes (p - 4) None)
+    else connector_sides (slice_index_or states.conns (p - 20) None))
 
 -- a CRTC is one of an object's
 abbrev pub is_side : Sides → ℕ → Bool

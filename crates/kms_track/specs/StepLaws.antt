@@ -12,7 +12,8 @@ use Rattle.kms_model.specs.declared.states.Checked.{Checked}
 use Rattle.kms_model.specs.declared.worlds.World.{World}
 use Rattle.kms_model.specs.Device.Objects.{count_of, object_id, ids_of}
 use Rattle.kms_model.specs.Device.Sound.{IsDevice, IsLawful}
-use Rattle.kms_model.specs.Machine.Commits.{commit_concerns, commit_names, commit_touches, has_latched, is_claimed, is_hw_done, lockable, new_crtc}
+use Rattle.kms_model.specs.Machine.Commits.{commit_concerns, commit_names, commit_touches, has_latched, is_claimed, is_hw_done, lockable}
+use Rattle.kms_model.specs.Machine.Commits.{new_crtc}
 use Rattle.kms_model.specs.Machine.Effects.{next}
 use Rattle.kms_model.specs.Machine.Histories.{legal}
 use Rattle.kms_model.specs.Machine.State.{Commit, DeviceState, Machine, go_at, request_at}

@@ -1,7 +1,8 @@
 -- Commits that are set up and not cleaned, as contracts see them: what their tails still need, and how far they have come.
 -- From: `drm_atomic_helper.c`, drm_atomic_helper_commit_tail: the planes and CRTCs of a commit are written, its CRTCs are
 -- flushed, it is done, and it is cleaned up; drm_atomic_helper_wait_for_dependencies.
-use Rattle.std.specs.Prelude.{ℕ, zero, suc, ◌+◌, ◌*◌, ◌^◌, ◌%◌, ◌<◌, ◌&&◌, ◌||◌, IsTrue, not, nat_le, Bool, true, false, List, [], ◌∷◌, find, replicate, slice_index_or, if◌then◌else◌, bit_or, Option, Some, None}
+use Rattle.std.specs.Prelude.{ℕ, zero, suc, ◌+◌, ◌*◌, ◌^◌, ◌%◌, ◌<◌, ◌&&◌, ◌||◌, IsTrue, not, nat_le, Bool, true, false, List, [], ◌∷◌}
+use Rattle.std.specs.Prelude.{find, replicate, slice_index_or, if◌then◌else◌, bit_or, Option, Some, None}
 use Rattle.std.specs.List.{list_all, range_with_len}
 use Rattle.std.specs.Option.{option_map, option_map_or}
 use Rattle.kms_model.specs.declared.objects.Kind.TheVariants.{Conn, Crtc, Plane}

@@ -27,7 +27,7 @@ impl Last {
     }
 
     /// The last two after a commit, where it touches the object.
-    fn raised(self, is_touched: bool, commit: u32) -> Last
+    fn raise(self, is_touched: bool, commit: u32) -> Last
         ensures { result ≡ raised self is_touched commit }
     {
         if is_touched {
@@ -48,6 +48,6 @@ pub(crate) fn raise(last: &mut [Last; 28], touched: &Mask, commit: u32)
 {
     for place in 0..MAX_LOCKABLE {
         let i = place as usize;
-        last[i] = last[i].raised(has_object(touched, place), commit);
+        last[i] = last[i].raise(has_object(touched, place), commit);
     }
 }

@@ -172,7 +172,7 @@ impl Tracker {
 
     /// The registers of a CRTC or a plane are written for a commit, by its number from 0, if it is set up and not cleaned.
     /// (Kernel: `drm_atomic_helper_commit_modeset_enables`, `drm_atomic_helper_commit_planes`.)
-    pub fn wrote(&mut self, commit: u32, id: ObjId)
+    pub fn mark_written(&mut self, commit: u32, id: ObjId)
         requires { HasRegisters id.0 }
         ensures { self.new ≡ marked self.old commit (wrote_mark id.0) }
     {
@@ -186,7 +186,7 @@ impl Tracker {
 
     /// The CRTC with an index, from 0 to 3, is flushed for a commit, by its number from 0, if it is set up and not cleaned.
     /// (Kernel: `atomic_flush`.)
-    pub fn flushed(&mut self, commit: u32, crtc: u32)
+    pub fn mark_flushed(&mut self, commit: u32, crtc: u32)
         requires { crtc < 4 }
         ensures { self.new ≡ marked self.old commit (mark.Flushed crtc) }
     {
@@ -285,24 +285,24 @@ impl Tracker {
         ensures { result ≡ not_yet_at self.now crtcs index }
     {
         if has_bit(crtcs, index) {
-            self.awaited(self.last[index as usize])
+            self.commit_to_await(self.last[index as usize])
         } else {
             None
         }
     }
 
     // The last commit, if it is not done, or else the last but one, if it is not cleaned.
-    fn awaited(&self, last: Last) -> Option<u32>
+    fn commit_to_await(&self, last: Last) -> Option<u32>
         ensures { result ≡ awaited self.now last }
     {
-        match self.undone(last.commit) {
+        match self.unless_done(last.commit) {
             Some(commit) => Some(commit),
-            None => self.uncleaned(last.before),
+            None => self.unless_cleaned(last.before),
         }
     }
 
     // A commit, if any, that is not done.
-    fn undone(&self, commit: Option<u32>) -> Option<u32>
+    fn unless_done(&self, commit: Option<u32>) -> Option<u32>
         ensures { result ≡ undone self.now commit }
     {
         let commit = commit?;
@@ -314,7 +314,7 @@ impl Tracker {
     }
 
     // A commit, if any, that is not cleaned.
-    fn uncleaned(&self, commit: Option<u32>) -> Option<u32>
+    fn unless_cleaned(&self, commit: Option<u32>) -> Option<u32>
         ensures { result ≡ uncleaned self.now commit }
     {
         let commit = commit?;

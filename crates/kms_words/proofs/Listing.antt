@@ -1,5 +1,6 @@
 -- Lists parted by commas, and hexadecimal digits, one more at a time.
-use Rattle.std.proofs.Common.{◌≡◌, ℕ, zero, suc, ◌+◌, ◌-◌, ◌/◌, ◌%◌, ◌<◌, true, false, List, [], ◌∷◌, ◌++◌, refl, ap, sym, ◌∙◌, append_assoc, append-nil, map-id, cond, arith}
+use Rattle.std.proofs.Common.{◌≡◌, ℕ, zero, suc, ◌+◌, ◌-◌, ◌/◌, ◌%◌, ◌<◌, true, false, List, [], ◌∷◌, ◌++◌, refl, ap, sym, ◌∙◌}
+use Rattle.std.proofs.Common.{append_assoc, append-nil, map-id, cond, arith}
 use Rattle.std.specs.Prelude.{filter, map}
 use Rattle.std.specs.Fmt.{digit_glyph}
 use Rattle.std.specs.List.{join_with_byte, range_with_len}
@@ -29,7 +30,8 @@ module _ (f : ℕ → List ℕ) where
   join_push : (xs : List ℕ) (x : ℕ) → join_with_byte 44 (map f (xs ++ x ∷ [])) ≡ join_with_byte 44 (map f xs) ++ (comma_behind xs ++ f x)
   join_push [] x = refl
   join_push (y ∷ []) x = refl
-  join_push (y ∷ z ∷ zs) x = ap (λ (bs : List ℕ). f y ++ 44 ∷ bs) (join_push (z ∷ zs) x) ∙ sym (append_assoc (f y) (44 ∷ join_with_byte 44 (map f (z ∷ zs))) (comma_behind (y ∷ z ∷ zs) ++ f x))
+  join_push (y ∷ z ∷ zs) x = ap (λ (bs : List ℕ). f y ++ 44 ∷ bs) (join_push (z ∷ zs) x) ∙ sym
+      (append_assoc (f y) (44 ∷ join_with_byte 44 (map f (z ∷ zs))) (comma_behind (y ∷ z ∷ zs) ++ f x))
 
 module _ (mask n : ℕ) where
   bits_more : bits_below mask (n + 1) ≡ bits_below mask n ++ cond (has_bit mask n) (n ∷ []) []
@@ -43,7 +45,8 @@ module _ (mask n : ℕ) where
   pub bit_passed : has_bit mask n ≡ false → bits_below mask (n + 1) ≡ bits_below mask n
   bit_passed is = (rw is at bits_more) ∙ append-nil (bits_below mask n)
 
-  pub list_taken : (f : ℕ → List ℕ) → has_bit mask n ≡ true → list_word f (n + 1) mask ≡ list_word f n mask ++ (comma_behind (bits_below mask n) ++ f n)
+  pub list_taken : (f : ℕ → List ℕ) → has_bit mask n ≡ true → list_word f (n + 1) mask ≡ list_word f n mask
+      ++ (comma_behind (bits_below mask n) ++ f n)
   list_taken f is = ap (λ (bits : List ℕ). join_with_byte 44 (map f bits)) (bit_taken is) ∙ join_push f (bits_below mask n) n
 
   pub list_passed : (f : ℕ → List ℕ) → has_bit mask n ≡ false → list_word f (n + 1) mask ≡ list_word f n mask
@@ -59,11 +62,13 @@ module _ (mask n : ℕ) where
 pub digit_added : (old before now : List ℕ) (count n : ℕ) → 0 < count → before ≡ old ++ hex_digits (count - 1) (n / 16)
     → now ≡ before ++ digit_glyph false (n % 16) ∷ [] → now ≡ old ++ hex_digits count n
 digit_added old before now count n pos e f =
-    f ∙ rw e (append_assoc old (hex_digits (count - 1) (n / 16)) (digit_glyph false (n % 16) ∷ [])) ∙ ap (λ (ds : List ℕ). old ++ ds) (sym (hex_digits_more count n pos))
+    f ∙ rw e (append_assoc old (hex_digits (count - 1) (n / 16)) (digit_glyph false (n % 16) ∷ [])) ∙ ap (λ (ds : List ℕ). old ++ ds)
+    (sym (hex_digits_more count n pos))
 
 -- one word more, behind a comma where there are words before it
 pub word_added : (old before mark marked now : List ℕ) (f : ℕ → List ℕ) (mask n : ℕ) → has_bit mask n ≡ true
     → before ≡ old ++ list_word f n mask → mark ≡ comma_behind (bits_below mask n)
     → marked ≡ before ++ mark → now ≡ marked ++ f n → now ≡ old ++ list_word f (n + 1) mask
 word_added old before mark marked now f mask n is e m g h =
-    h ∙ rw (g, e, m) (append_assoc (old ++ list_word f n mask) (comma_behind (bits_below mask n)) (f n)) ∙ append_assoc old (list_word f n mask) (comma_behind (bits_below mask n) ++ f n) ∙ ap (λ (ws : List ℕ). old ++ ws) (sym (list_taken mask n f is))
+    h ∙ rw (g, e, m) (append_assoc (old ++ list_word f n mask) (comma_behind (bits_below mask n)) (f n)) ∙ append_assoc old
+    (list_word f n mask) (comma_behind (bits_below mask n) ++ f n) ∙ ap (λ (ws : List ℕ). old ++ ws) (sym (list_taken mask n f is))

@@ -1,5 +1,6 @@
 -- Lists that a loop reads item by item.
-use Rattle.std.proofs.Common.{◌≡◌, ℕ, suc, ◌+◌, ◌-◌, ◌<◌, ◌≤◌, List, [], ◌∷◌, ◌++◌, length, take, drop, get_or, append-nil, Option, Some, None, refl, sym, ap, arith}
+use Rattle.std.proofs.Common.{◌≡◌, ℕ, suc, ◌+◌, ◌-◌, ◌<◌, ◌≤◌, List, [], ◌∷◌, ◌++◌, length, take, drop, get_or, append-nil, Option, Some}
+use Rattle.std.proofs.Common.{None, refl, sym, ap, arith}
 use Rattle.std.specs.Prelude.{option_map}
 use Rattle.std.proofs.lemmas.List.{append_assoc}
 use Rattle.std.proofs.Math.Seq.{take-length}
@@ -22,7 +23,8 @@ pub next_pair : (xs bytes : List ℕ) (x : ℕ) → 2 ≤ length bytes → Some 
 unfolding hex_bytes
 next_pair xs [] x long e = absurd (omega arith)
 next_pair xs (a ∷ []) x long e = absurd (omega arith)
-next_pair xs (a ∷ b ∷ more) x long e = let k : length (a ∷ b ∷ more) - 2 ≡ length more = omega arith in rw (← e, k, take-length more) (more_items xs x (hex_bytes more))
+next_pair xs (a ∷ b ∷ more) x long e = let k : length (a ∷ b ∷ more) - 2 ≡ length more = omega arith
+    in rw (← e, k, take-length more) (more_items xs x (hex_bytes more))
 
 pub no_pair : (bytes : List ℕ) → 2 ≤ length bytes → None ≡ hex_pair (get_or bytes 0 0) (get_or bytes 1 0) → None ≡ hex_bytes bytes
 unfolding hex_bytes

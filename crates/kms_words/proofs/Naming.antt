@@ -1,5 +1,6 @@
 -- Words with numbers, as names in order of first occurrence.
-use Rattle.std.proofs.Common.{◌≡◌, ℕ, ◌+◌, ◌<◌, ◌≤◌, ◌^◌, Bool, true, false, zero, suc, List, [], ◌∷◌, ◌++◌, map, length, take, length-take, cond, not, Option, Some, None, refl, sym, ap, subst, ◌∙◌, arith}
+use Rattle.std.proofs.Common.{◌≡◌, ℕ, ◌+◌, ◌<◌, ◌≤◌, ◌^◌, Bool, true, false, zero, suc, List, [], ◌∷◌, ◌++◌, map, length, take, length-take}
+use Rattle.std.proofs.Common.{cond, not, Option, Some, None, refl, sym, ap, subst, ◌∙◌, arith}
 use Rattle.std.specs.Prelude.{◌||◌, option_map, slice_get}
 use Rattle.std.specs.Cmp.Lexicographic.{nat_list_eq_equiv}
 use Rattle.std.specs.List.{AllByRecursion, IsDistinct, position_or_len}
@@ -65,7 +66,8 @@ there_step false (Some m) n x ns after e ih = rw (ih m refl) refl
 pub said_there : (f : ℕ → Bool) (w : List ℕ) (k : ℕ) (ws : List (List ℕ)) (n : ℕ) → place_among w ws ≡ Some n
     → said w (marked_names f k ws) ≡ marked_names f k ws
 said_there f w k [] n e = absurd cc
-said_there f w k (x ∷ ws) n e = there_step (bytes_eq w x) (place_among w ws) n (named x (f k)) (marked_names f (k + 1) ws) (said w (marked_names f (k + 1) ws)) e (λ m is. said_there f w (k + 1) ws m is)
+said_there f w k (x ∷ ws) n e = there_step (bytes_eq w x) (place_among w ws) n (named x (f k)) (marked_names f (k + 1) ws)
+    (said w (marked_names f (k + 1) ws)) e (λ m is. said_there f w (k + 1) ws m is)
 
 new_step : (t : Bool) (x : Name) (ns after : List Name) → t ≡ false → cond t (x ∷ ns) (x ∷ after) ≡ x ∷ after
 new_step true x ns after e = absurd cc
@@ -80,7 +82,8 @@ said_new f w k [] e off = let here : f k ≡ false = subst (λ (n : ℕ). f n �
 said_new f w k (x ∷ ws) e off =
     let head : (bytes_eq w x ≡ false) × (place_among w ws ≡ None) = absent_head (bytes_eq w x) (place_among w ws) e in
     let there : f (k + 1 + length ws) ≡ false = subst (λ (n : ℕ). f n ≡ false) (moved k (length ws)) off in
-    new_step (bytes_eq w x) (named x (f k)) (marked_names f (k + 1) ws) (said w (marked_names f (k + 1) ws)) head.0 ∙ ap (λ (ns : List Name). named x (f k) ∷ ns) (said_new f w (k + 1) ws head.1 there)
+    new_step (bytes_eq w x) (named x (f k)) (marked_names f (k + 1) ws) (said w (marked_names f (k + 1) ws)) head.0 ∙ ap
+    (λ (ns : List Name). named x (f k) ∷ ns) (said_new f w (k + 1) ws head.1 there)
   where
     moved : (n m : ℕ) → n + suc m ≡ n + 1 + m
     moved n m = omega arith
@@ -106,7 +109,8 @@ made_step true o n k f g x ws after e marks ih =
     let none : 0 ≡ n = cc in
     let at : k + n ≡ k = omega (arith, none) in
     let here : g k ≡ true = subst (λ (m : ℕ). g m ≡ true) at marks.here in
-    let rest : marked_names f (k + 1) ws ≡ marked_names g (k + 1) ws = marked_same f g (k + 1) ws (λ m le. sym (marks.others m (λ same. absurd (omega (arith, le, same, at))))) in
+    let rest : marked_names f (k + 1) ws ≡ marked_names g (k + 1) ws = marked_same f g (k + 1) ws
+    (λ m le. sym (marks.others m (λ same. absurd (omega (arith, le, same, at))))) in
     rw (here, rest) refl
 made_step false None n k f g x ws after e marks ih = absurd cc
 made_step false (Some m) n k f g x ws after e marks ih =
@@ -119,7 +123,8 @@ made_step false (Some m) n k f g x ws after e marks ih =
 made_at : (f g : ℕ → Bool) (w : List ℕ) (k : ℕ) (ws : List (List ℕ)) (n : ℕ) → place_among w ws ≡ Some n → Marks f g (k + n)
     → made w (marked_names f k ws) ≡ marked_names g k ws
 made_at f g w k [] n e marks = absurd cc
-made_at f g w k (x ∷ ws) n e marks = made_step (bytes_eq w x) (place_among w ws) n k f g x ws (made w (marked_names f (k + 1) ws)) e marks (λ m is more. made_at f g w (k + 1) ws m is more)
+made_at f g w k (x ∷ ws) n e marks = made_step (bytes_eq w x) (place_among w ws) n k f g x ws (made w (marked_names f (k + 1) ws)) e marks
+    (λ m is more. made_at f g w (k + 1) ws m is more)
 
 was_step : (t : Bool) (o : Option ℕ) (n k : ℕ) (f : ℕ → Bool) (after : Bool) → cond t (Some 0) (option_map (λ n. n + 1) o) ≡ Some n
     → ((m : ℕ) → o ≡ Some m → after ≡ f (k + 1 + m)) → cond t (f k) after ≡ f (k + n)
@@ -188,7 +193,8 @@ unfolding saying
 saying_new profile w ws numbers count twice e below =
     rw (said_new (is_in_numbers numbers) w 0 ws e (past (is_in_numbers numbers (0 + length ws)) (length ws) refl below)) refl
   where
-    past : (b : Bool) (len : ℕ) → is_in_numbers numbers (0 + len) ≡ b → ((n : ℕ) → is_in_numbers numbers n ≡ true → n < len) → is_in_numbers numbers (0 + len) ≡ false
+    past : (b : Bool) (len : ℕ) → is_in_numbers numbers (0 + len) ≡ b → ((n : ℕ) → is_in_numbers numbers n ≡ true → n < len)
+        → is_in_numbers numbers (0 + len) ≡ false
     past true len e below = absurd (omega (arith, below (0 + len) e))
     past false len e below = e
 
@@ -201,18 +207,25 @@ pub making_said : (profile : ℕ) (w : List ℕ) (old : Names) (ws : List (List 
 unfolding saying making
 making_said profile w old ws numbers after count twice new said_is new_is after_is =
     let all : marked_names (is_in_numbers numbers) 0 ws ≡ said w old.all = ap (λ (n : Names). n.all) said_is in
-    let words : ws ≡ map (λ (n : Name). n.word) (said w old.all) = sym (marked_words (is_in_numbers numbers) 0 ws) ∙ ap (λ (ns : List Name). map (λ (n : Name). n.word) ns) all in
+    let words : ws ≡ map (λ (n : Name). n.word) (said w old.all) = sym (marked_words (is_in_numbers numbers) 0 ws) ∙ ap
+    (λ (ns : List Name). map (λ (n : Name). n.word) ns) all in
     let found : place_among w ws ≡ Some (place w old) = rw words (said_found w old.all) in
-    let now : made w old.all ≡ marked_names (is_in_numbers after) 0 ws = sym (made_again w old.all) ∙ (ap (made w) (sym all) ∙ made_at (is_in_numbers numbers) (is_in_numbers after) w 0 ws (place w old) found (marks_of (place w old) after_is)) in
-    let was : was_made w old.all ≡ is_in_numbers numbers (place w old) = sym (was_again w old.all) ∙ (ap (was_made w) (sym all) ∙ (was_at (is_in_numbers numbers) w 0 ws (place w old) found ∙ ap (is_in_numbers numbers) (from_none (place w old)))) in
+    let now : made w old.all ≡ marked_names (is_in_numbers after) 0 ws = sym (made_again w old.all) ∙
+    (ap (made w) (sym all) ∙ made_at (is_in_numbers numbers) (is_in_numbers after) w 0 ws (place w old) found
+    (marks_of (place w old) after_is)) in
+    let was : was_made w old.all ≡ is_in_numbers numbers (place w old) = sym (was_again w old.all) ∙
+    (ap (was_made w) (sym all) ∙ (was_at (is_in_numbers numbers) w 0 ws (place w old) found ∙ ap (is_in_numbers numbers)
+    (from_none (place w old)))) in
     let profiles : profile ≡ old.profile = ap (λ (n : Names). n.profile) said_is in
     let counts : count ≡ old.made = ap (λ (n : Names). n.made) said_is in
     let twices : twice ≡ old.is_twice = ap (λ (n : Names). n.is_twice) said_is in
     rw (now, was, profiles, counts, twices, new_is, not_not (is_in_numbers numbers (place w old))) refl
   where
-    marks_of : (n : ℕ) → ((m : ℕ) → is_in_numbers after m ≡ cond (is_eq (nat_cmp n m)) true (is_in_numbers numbers m)) → Marks (is_in_numbers numbers) (is_in_numbers after) (0 + n)
+    marks_of : (n : ℕ) → ((m : ℕ) → is_in_numbers after m ≡ cond (is_eq (nat_cmp n m)) true (is_in_numbers numbers m))
+        → Marks (is_in_numbers numbers) (is_in_numbers after) (0 + n)
     marks_of n e =
-        let marks : Marks (is_in_numbers numbers) (is_in_numbers after) n = record { here = e n ∙ rw (same_number n) refl; others = λ m apart. e m ∙ rw (other_number n m apart) refl } in
+        let marks : Marks (is_in_numbers numbers) (is_in_numbers after) n =
+        record { here = e n ∙ rw (same_number n) refl; others = λ m apart. e m ∙ rw (other_number n m apart) refl } in
         let at : n ≡ 0 + n = omega arith in
         subst (λ (i : ℕ). Marks (is_in_numbers numbers) (is_in_numbers after) i) at marks
 
@@ -228,7 +241,8 @@ pub found_said : (profile : ℕ) (w : List ℕ) (old : Names) (ws : List (List �
     → names_of profile ws numbers count twice ≡ saying w old → place_among w ws ≡ Some (place w old)
 unfolding saying
 found_said profile w old ws numbers count twice said_is =
-    let words : ws ≡ map (λ (n : Name). n.word) (said w old.all) = sym (marked_words (is_in_numbers numbers) 0 ws) ∙ ap (λ (n : Names). words_in n) said_is in
+    let words : ws ≡ map (λ (n : Name). n.word) (said w old.all) = sym (marked_words (is_in_numbers numbers) 0 ws) ∙ ap
+    (λ (n : Names). words_in n) said_is in
     rw words (said_found w old.all)
 
 below_step : (t : Bool) (o : Option ℕ) (n len : ℕ) → cond t (Some 0) (option_map (λ n. n + 1) o) ≡ Some n → ((m : ℕ) → o ≡ Some m → m < len)

@@ -1,5 +1,6 @@
 -- The numbers of names that lines make, one name after the other.
-use Rattle.std.proofs.Common.{◌≡◌, ℕ, ◌+◌, Bool, true, false, zero, suc, List, [], ◌∷◌, ◌++◌, length, take, cond, Some, append-nil, append_assoc, refl, sym, ap, ◌∙◌, arith}
+use Rattle.std.proofs.Common.{◌≡◌, ℕ, ◌+◌, Bool, true, false, zero, suc, List, [], ◌∷◌, ◌++◌, length, take, cond, Some, append-nil}
+use Rattle.std.proofs.Common.{append_assoc, refl, sym, ap, ◌∙◌, arith}
 use Rattle.std.specs.Prelude.{slice_get}
 use Rattle.kms_model.specs.Script.CommandLines.{Name}
 use Rattle.kms_words.specs.Named.{is_in_numbers, marked_names}
@@ -18,7 +19,8 @@ first_number true w ns = refl
 first_number false w ns = refl
 
 pub number_after : (f : ℕ → Bool) (k : ℕ) (ws : List (List ℕ)) (i : ℕ) (w : List ℕ) → slice_get ws i ≡ Some w
-    → packed_all (made_words (marked_names f k (take (i + 1) ws))) ≡ packed_all (made_words (marked_names f k (take i ws))) ++ number_where (f (k + i)) w
+    → packed_all (made_words (marked_names f k (take (i + 1) ws))) ≡ packed_all (made_words (marked_names f k (take i ws)))
+    ++ number_where (f (k + i)) w
 number_after f k [] i w e = absurd cc
 number_after f k (v ∷ ws) zero w e =
     let same : v ≡ w = cc in

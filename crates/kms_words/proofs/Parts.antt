@@ -1,5 +1,6 @@
 -- The parts of a word or a line, one after the other.
-use Rattle.std.proofs.Common.{◌≡◌, ℕ, ◌+◌, ◌-◌, ◌<◌, ◌≤◌, ◌^◌, Bool, true, false, List, [], ◌∷◌, length, take, drop, cond, Option, Some, None, refl, sym, ap, ◌∙◌, arith}
+use Rattle.std.proofs.Common.{◌≡◌, ℕ, ◌+◌, ◌-◌, ◌<◌, ◌≤◌, ◌^◌, Bool, true, false, List, [], ◌∷◌, length, take, drop, cond, Option, Some}
+use Rattle.std.proofs.Common.{None, refl, sym, ap, ◌∙◌, arith}
 use Rattle.std.specs.Prelude.{◌==◌, option_map}
 use Rattle.std.specs.List.{onto_first}
 use Rattle.std.proofs.Math.Pow.{pow_mono}
@@ -84,7 +85,8 @@ behind_comma (b ∷ bs) long = let k : length (b ∷ bs) - 1 ≡ length bs = ome
 
 pub part_has_more : (f : List ℕ → Option ℕ) (mask low bit : ℕ) (rest part after : List ℕ) → part ≡ until comma rest
     → after ≡ from comma rest → Some bit ≡ f part → low ≤ bit → 1 ≤ length after
-    → with_bits (mask + 2 ^ bit) (rising f (bit + 1) (parted comma (take (length after - 1) (drop 1 after)))) ≡ with_bits mask (rising f low (parted comma rest))
+    → with_bits (mask + 2 ^ bit) (rising f (bit + 1) (parted comma (take (length after - 1) (drop 1 after))))
+    ≡ with_bits mask (rising f low (parted comma rest))
 part_has_more f mask low bit rest part after front back e le long =
     rw (← behind_comma after long) (part_counts f mask low bit rest part after front back e le)
 
@@ -93,4 +95,5 @@ pub mask_grows : (mask low bit : ℕ) → mask < 2 ^ low → low ≤ bit → mas
 mask_grows mask low bit lt le = omega (arith, pow_mono le, pow_more 2 bit)
 
 pub mask_is_below : (mask low bit bits : ℕ) → mask < 2 ^ low → low ≤ bit → bit < bits → mask + 2 ^ bit < 2 ^ bits
-mask_is_below mask low bit bits lt le below = let most : 2 ^ (bit + 1) ≤ 2 ^ bits = pow_mono {i = bit + 1} {j = bits} (omega arith) in omega (arith, mask_grows mask low bit lt le, most)
+mask_is_below mask low bit bits lt le below = let most : 2 ^ (bit + 1) ≤ 2 ^ bits = pow_mono {i = bit + 1} {j = bits} (omega arith)
+    in omega (arith, mask_grows mask low bit lt le, most)

@@ -1,5 +1,6 @@
 -- Words with numbers, beside a map that finds them.
-use Rattle.std.proofs.Common.{◌≡◌, ℕ, ◌+◌, Bool, true, false, suc, List, [], ◌∷◌, ◌++◌, length, cond, Option, Some, None, refl, sym, subst, ◌∙◌, arith}
+use Rattle.std.proofs.Common.{◌≡◌, ℕ, ◌+◌, Bool, true, false, suc, List, [], ◌∷◌, ◌++◌, length, cond, Option, Some, None, refl, sym, subst}
+use Rattle.std.proofs.Common.{◌∙◌, arith}
 use Rattle.std.specs.Prelude.{option_map}
 use Rattle.std.specs.BTreeMap as tree
 use Rattle.std.specs.BTreeMap.{BTreeMap}
@@ -66,8 +67,10 @@ pub number_last : (ws : List (List ℕ)) (w v : List ℕ) → place_among w ws �
 number_last [] w v none = last_alone w v
 number_last (x ∷ ws) w v none =
     let head : (bytes_eq w x ≡ false) × (place_among w ws ≡ None) = absent_head (bytes_eq w x) (place_among w ws) none in
-    let apart : bytes_eq w v ≡ true → bytes_eq v x ≡ false = λ e. subst (λ (u : List ℕ). bytes_eq u x ≡ false) ((bytes_eq-Decides w v).0 e) head.0 in
-    rw (add_one (length ws)) (last_step (bytes_eq w v) (bytes_eq v x) (length ws) (place_among v ws) (place_among v (ws ++ w ∷ [])) apart (number_last ws w v head.1))
+    let apart : bytes_eq w v ≡ true → bytes_eq v x
+    ≡ false = λ e. subst (λ (u : List ℕ). bytes_eq u x ≡ false) ((bytes_eq-Decides w v).0 e) head.0 in
+    rw (add_one (length ws)) (last_step (bytes_eq w v) (bytes_eq v x) (length ws) (place_among v ws) (place_among v (ws ++ w ∷ [])) apart
+    (number_last ws w v head.1))
   where
     add_one : (n : ℕ) → suc n ≡ n + 1
     add_one n = omega arith
@@ -123,8 +126,10 @@ numbered_front ws word m n is h =
     record {
       differ = front.0;
       found = λ v.
-          let gone : bytes_eq word v ≡ true → place_among v ws ≡ None = λ e. subst (λ (u : List ℕ). place_among u ws ≡ None) ((bytes_eq-Decides word v).0 e) front.1 in
-          found_after word m n None h v ∙ rw (is.found v, number_last ws word v front.1) (taken_back (bytes_eq word v) (length ws) (place_among v ws) gone);
+          let gone : bytes_eq word v ≡ true → place_among v ws
+          ≡ None = λ e. subst (λ (u : List ℕ). place_among u ws ≡ None) ((bytes_eq-Decides word v).0 e) front.1 in
+          found_after word m n None h v ∙ rw (is.found v, number_last ws word v front.1)
+          (taken_back (bytes_eq word v) (length ws) (place_among v ws) gone);
     }
 
 -- no words

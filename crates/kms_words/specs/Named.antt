@@ -29,7 +29,11 @@ marked_names is_made n (w ∷ ws) = record { word = w; is_made = is_made n } ∷
 -- a profile, words with their numbers, how many of them were there before, the numbers of labels that are made, how often
 -- one was made, and whether one was made twice
 abbrev pub held : ℕ → List (List ℕ) → ℕ → List ℕ → ℕ → Bool → HeldNames
-held profile words earlier numbers count twice = record { names = record { profile = profile; all = marked_names (is_in_numbers numbers) 0 words; made = count; is_twice = twice }; before = record { profile = profile; words = take earlier words } }
+held profile words earlier numbers count twice =
+    record {
+      names = record { profile = profile; all = marked_names (is_in_numbers numbers) 0 words; made = count; is_twice = twice };
+      before = record { profile = profile; words = take earlier words };
+    }
 
 -- the numbers are those of words, and so many were there before
 pub record AreMade (words : List (List ℕ)) (count : ℕ) (numbers : List ℕ) : Type 0 where

@@ -36,7 +36,7 @@ fn all_name_bytes(word: &[u8]) -> bool
     word.iter().all(|b| is_name_byte(*b))
 }
 
-fn padded(word: &[u8]) -> [u8; 32]
+fn pad(word: &[u8]) -> [u8; 32]
     requires { length word.now < 32 }
     ensures { result ≡ word.now ++ replicate (32 - length word.now) 0 }
 {
@@ -51,7 +51,7 @@ fn take_name(bytes: &[u8]) -> Option<([u8; 32], &[u8])>
 {
     let (word, rest) = take_field(bytes)?;
     if !word.is_empty() && word.len() < 32 && all_name_bytes(word) {
-        Some((padded(word), rest))
+        Some((pad(word), rest))
     } else {
         None
     }

@@ -8,7 +8,7 @@ use crate::words::{read_dec, split_at_byte, strip};
 use kms_model::Kind;
 use kms_props::lookup;
 
-fn indexed(kind: Kind, digits: &[u8]) -> Option<(Kind, u32)>
+fn with_index(kind: Kind, digits: &[u8]) -> Option<(Kind, u32)>
     ensures { result ≡ indexed kind digits.now }
 {
     Some((kind, read_dec(digits, 255)? as u32))
@@ -20,15 +20,15 @@ pub fn read_object(word: &[u8]) -> Option<(Kind, u32)>
     ensures { result ≡ object word.now }
 {
     if let Some(digits) = strip(b"crtc", word) {
-        return indexed(Kind::Crtc, digits);
+        return with_index(Kind::Crtc, digits);
     }
     if let Some(digits) = strip(b"plane", word) {
-        return indexed(Kind::Plane, digits);
+        return with_index(Kind::Plane, digits);
     }
     if let Some(digits) = strip(b"conn", word) {
-        return indexed(Kind::Conn, digits);
+        return with_index(Kind::Conn, digits);
     }
-    indexed(Kind::Enc, strip(b"enc", word)?)
+    with_index(Kind::Enc, strip(b"enc", word)?)
 }
 
 fn is_property_byte(b: u8) -> bool

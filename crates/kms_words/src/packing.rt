@@ -6,13 +6,13 @@ use crate::words::is_label;
 use kms_model::NoMemory;
 
 /// A word of at most 16 bytes as a number, whose digits to the base 256 are its bytes, the lowest first.
-fn packed(word: &[u8]) -> u128
+fn pack(word: &[u8]) -> u128
     requires { length word.now ≤ 16 }
     ensures value { result ≡ packed word.now }
     ensures small { result < 256 ^ length word.now }
 {
     match word {
-        [first, rest @ ..] => u128::from(*first) + 256 * packed(rest),
+        [first, rest @ ..] => u128::from(*first) + 256 * pack(rest),
         [] => 0,
     }
 }
@@ -22,7 +22,7 @@ pub fn push_packed(numbers: &mut Vec<u128>, word: &[u8]) -> Result<(), NoMemory>
     ensures { OnOk result (numbers.new.items ≡ numbers.old.items ++ packed_alone word.now) }
 {
     if is_label(word) {
-        numbers.push(packed(word))?;
+        numbers.push(pack(word))?;
     }
     Ok(())
 }

@@ -10,7 +10,8 @@ block_more : (blend : ℕ → ℕ → ℕ → ℕ) (q f old now new : List ℕ) 
 block_more blend q f old now new at end is before block = record {
   done = λ k below. ⊎_elim
       (λ h. block.before k h ∙ before.done k h)
-      (λ h. block.blended k h (omega (arith, below, is)) ∙ kept (slice_index now k) (slice_index old k) (blend (slice_index q k) (slice_index f k)) (before.left k h))
+      (λ h. block.blended k h (omega (arith, below, is)) ∙ kept (slice_index now k) (slice_index old k)
+      (blend (slice_index q k) (slice_index f k)) (before.left k h))
       (cases_lt k at);
   left = λ k above. block.behind k (omega (arith, above, is)) ∙ before.left k (omega (arith, above, is));
 }

@@ -9,4 +9,5 @@ loop-answer-preserved c =
     c.loop-answer-test.true c.loop-answer.invariant c.in_ok-push_answer.ensures
 
 pub returns : goal.returns
-returns c = at_last (λ answers. section_text c.args.section answers c.args.client) c.args.answers.now c.loop-answer.answer-index c.args.text.now.items _ c.loop-answer-test.false c.loop-answer.invariant
+returns c = at_last (λ answers. section_text c.args.section answers c.args.client) c.args.answers.now c.loop-answer.answer-index
+    c.args.text.now.items _ c.loop-answer-test.false c.loop-answer.invariant

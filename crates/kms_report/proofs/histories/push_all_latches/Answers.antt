@@ -6,4 +6,5 @@ use Rattle.kms_report.proofs.histories.push_all_latches.Goals as goal
 
 pub loop-crtc-preserved : goal.loop-crtc-preserved
 loop-crtc-preserved g c =
-    appended_range (latches_text (machine c.args.core.now) c.args.pixmap c.args.latches.now) c.args.text.now.items _ _ 0 c.loop-crtc.crtc c.loop-crtc.crtc (omega arith) c.loop-crtc.invariant c.in_ok-push.ensures
+    appended_range (latches_text (machine c.args.core.now) c.args.pixmap c.args.latches.now) c.args.text.now.items _ _ 0 c.loop-crtc.crtc
+    c.loop-crtc.crtc (omega arith) c.loop-crtc.invariant c.in_ok-push.ensures

@@ -12,8 +12,10 @@ showing-requires-clause-screen g c =
 
 pub showing-requires-clause-picture : goal.showing-requires-clause-picture
 showing-requires-clause-picture g c =
-    shown-still c.push_images.new.images c.push_next.new.images c.args.latch.now.picture c.in_ok-push_next.ensures.kept c.in_ok-push_images.ensures.shown
+    shown-still c.push_images.new.images c.push_next.new.images c.args.latch.now.picture c.in_ok-push_next.ensures.kept
+    c.in_ok-push_images.ensures.shown
 
 pub returns : goal.returns
 returns g c =
-    showing-of (things_of c.args.core.now) c.push_next.new.images c.in_ok-push_next.ensures.images c.showing.result c.args.latch.now.picture c.showing.ensures
+    showing-of (things_of c.args.core.now) c.push_next.new.images c.in_ok-push_next.ensures.images c.showing.result c.args.latch.now.picture
+    c.showing.ensures

@@ -44,7 +44,8 @@ loop-place-preserved c =
           let own : get_or strands k First ≡ First = search rules in
           record {
             told = ap (λ t. t.items) w.text-is ∙ one_line_more (machine c.args.told.now.core.now) false latches crtc k latch within
-                c.args.text.now.items c.loop-place.text.items w.push_told.new.text.items latch is old.told w.in_ok-first-in-First.ensures.text;
+                c.args.text.now.items c.loop-place.text.items w.push_told.new.text.items latch is old.told
+                w.in_ok-first-in-First.ensures.text;
             first = ap (λ r. r.now) w.first-is ∙ w.in_ok-first-in-First.ensures.others _
                 (old.first ∙ own_first things crtc First latches strands k latch First within beside own latch is);
             second = ap (λ r. r.now) w.second-is ∙ old.second ∙ other_first things crtc Second latches strands k latch First within beside

@@ -5,16 +5,16 @@ use Rattle.kms_model.specs.Script.WellFormed.{IsWellFormed}
 use Rattle.kms_suspend.proofs.Drained.{not_stalled}
 use Rattle.kms_suspend.proofs.sleeping.sleep_and_wake.Goals as goal
 
-pub woken-requires-clause-formed : goal.woken-requires-clause-formed
-woken-requires-clause-formed c =
+pub wake-requires-clause-formed : goal.wake-requires-clause-formed
+wake-requires-clause-formed c =
     let s = c.args.core.script in
     let h = c.args.core.steps in
     let longer = c.in_ok-longer.ensures in
     subst IsWellFormed (sym longer.script)
     (c.longer_scripts_are_well_formed.ensures s h c.is_a_history.ensures.formed c.requires.room c.is_a_history.ensures.history longer.open)
 
-pub woken-requires-clause-history : goal.woken-requires-clause-history
-woken-requires-clause-history c =
+pub wake-requires-clause-history : goal.wake-requires-clause-history
+wake-requires-clause-history c =
     let s = c.args.core.script in
     let h = c.args.core.steps in
     let history = c.is_a_history.ensures.history in

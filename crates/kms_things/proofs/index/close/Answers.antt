@@ -6,7 +6,8 @@ pub returns-then-id-lt-FIRST_THING_ID : goal.returns-then-id-lt-FIRST_THING_ID
 returns-then-id-lt-FIRST_THING_ID c = closed_below 1000 c.args.id c.args.things.now.items c.requires c.if-id-lt-FIRST_THING_ID.true
 
 pub returns-in-Some : goal.returns-in-Some
-returns-in-Some c = closed_at 1000 (c.args.id - 1000) c.args.id c.args.things.now.items c.in-Some.thing.now c.requires (omega arith) (search arith) c.in-Some.ensures.value
+returns-in-Some c = closed_at 1000 (c.args.id - 1000) c.args.id c.args.things.now.items c.in-Some.thing.now c.requires (omega arith)
+    (search arith) c.in-Some.ensures.value
 
 pub returns-in_default : goal.returns-in_default
 returns-in_default c = closed_past 1000 c.args.id c.args.things.now.items c.requires (grind arith)

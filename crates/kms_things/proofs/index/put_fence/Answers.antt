@@ -8,8 +8,12 @@ use Rattle.kms_things.proofs.index.put_fence.Goals as goal
 
 pub returns-clause-kept : goal.returns-clause-kept
 returns-clause-kept c =
-    λ buffers kept. rw c.put.ensures.things (kept_fence c.args.things.now.items c.args.next c.args.ids.now c.put.new.ids buffers c.in-Some.label c.args.client kept (subst (λ (ts : List Thing). IsIndex c.put.new.ids ts) c.put.ensures.things c.put.ensures.indexed))
+    λ buffers kept. rw c.put.ensures.things (kept_fence c.args.things.now.items c.args.next c.args.ids.now c.put.new.ids buffers
+    c.in-Some.label c.args.client kept (subst (λ (ts : List Thing). IsIndex c.put.new.ids ts) c.put.ensures.things
+    c.put.ensures.indexed))
 
 pub returns-clause-referred : goal.returns-clause-referred
 returns-clause-referred c =
-    λ fbs referred. rw c.put.ensures.things (referred_made c.args.things.now.items c.args.next fbs (record { label = c.in-Some.label; id = c.args.next; owner = c.args.client; content = content.OutFence; is_open = true }) refl (λ owner. refl) referred)
+    λ fbs referred. rw c.put.ensures.things (referred_made c.args.things.now.items c.args.next fbs
+    (record { label = c.in-Some.label; id = c.args.next; owner = c.args.client; content = content.OutFence; is_open = true }) refl
+    (λ owner. refl) referred)

@@ -13,7 +13,15 @@ loop-label-preserved c =
     let less = length-drop (i + 1) labels in
     record {
       small = omega (arith, old.small, c.put_fence-next.ensures.next);
-      room = omega (arith, old.room, left, less, c.loop-label-test.true, c.put_fence-next.ensures.length, c.put_fence-next.ensures.capacity);
+      room = omega (
+        arith,
+        old.room,
+        left,
+        less,
+        c.loop-label-test.true,
+        c.put_fence-next.ensures.length,
+        c.put_fence-next.ensures.capacity,
+      );
       spare = omega (arith, old.spare, left, less, c.loop-label-test.true, c.put_fence-next.ensures.spare);
       indexed = c.put_fence-next.ensures.indexed;
       made = λ w things next. (

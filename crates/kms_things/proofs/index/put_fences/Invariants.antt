@@ -14,7 +14,9 @@ invariant-loop-label l = record {
   room : vec_len l.things + length (drop l.label-index l.labels) ≤ vec_capacity l.things;
   spare : length (drop l.label-index l.labels) ≤ spare l.ids;
   indexed : IsIndex l.ids l.things.items;
-  made : (w : World) → w.things ≡ l.initial.things.items → w.next_id ≡ l.first → fences_made l.client w l.labels ≡ fences_made l.client (record w { things = l.things.items; next_id = l.next }) (drop l.label-index l.labels);
-  kept : (buffers : List (Slot Buffer)) → AreKept l.initial.things.items l.first l.initial.ids buffers → AreKept l.things.items l.next l.ids buffers;
+  made : (w : World) → w.things ≡ l.initial.things.items → w.next_id ≡ l.first → fences_made l.client w l.labels
+      ≡ fences_made l.client (record w { things = l.things.items; next_id = l.next }) (drop l.label-index l.labels);
+  kept : (buffers : List (Slot Buffer)) → AreKept l.initial.things.items l.first l.initial.ids buffers
+      → AreKept l.things.items l.next l.ids buffers;
   referred : (fbs : List (Slot Framebuffer)) → AreReferred l.initial.things.items l.first fbs → AreReferred l.things.items l.next fbs;
 }

@@ -7,4 +7,5 @@ returns-then-id-lt-FIRST_THING_ID c = sym (none_below 1000 c.args.id c.args.thin
 
 pub returns : goal.returns
 returns c =
-    looked_up c.args.things.now (c.args.id - 1000) _ c.get.result c.get.ensures.lookup.3 c.get.ensures.lookup.1 ∙ sym (found c.args.id c.args.things.now c.requires c.if-id-lt-FIRST_THING_ID.false)
+    looked_up c.args.things.now (c.args.id - 1000) _ c.get.result c.get.ensures.lookup.3 c.get.ensures.lookup.1 ∙ sym
+    (found c.args.id c.args.things.now c.requires c.if-id-lt-FIRST_THING_ID.false)

@@ -1,7 +1,8 @@
 use Rattle.std.proofs.Common.{sym}
 use Rattle.kms_track.proofs.CheckedLemmas.{checked_for, device_within, in_touched}
 use Rattle.kms_track.proofs.SettingUp.{first_stands, room_stands}
-use Rattle.kms_track.proofs.StepLemmas.{claim_follows, cleanup_follows, flush_follows, flush_off_follows, hw_done_follows, legal_below, others_follow, swap_follows, vblank_follows, vblank_with_go_follows, write_follows}
+use Rattle.kms_track.proofs.StepLemmas.{claim_follows, cleanup_follows, flush_follows, flush_off_follows, hw_done_follows, legal_below}
+use Rattle.kms_track.proofs.StepLemmas.{others_follow, swap_follows, vblank_follows, vblank_with_go_follows, write_follows}
 use Rattle.kms_track.proofs.law.follows_the_machine.Goals as goal
 
 pub returns : goal.returns

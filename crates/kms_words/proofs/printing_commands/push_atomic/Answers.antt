@@ -12,6 +12,7 @@ returns c =
     let request = c.args.request.now in
     let flagged : c.push_hex.new.text.items ≡ c.args.text.now.items ++ codes "atomic " ++ hex_word request.flags = search rules in
     let numbered : c.push_number.new.text.items ≡ c.push_hex.new.text.items ++ 32 ∷ decimal request.user_data = search rules in
-    let assigns : OnOk c.push_assigns.result (c.push_assigns.new.text.items ≡ c.push_number.new.text.items ++ fields (map (assign_word names) request.assigns)) =
+    let assigns : OnOk c.push_assigns.result (c.push_assigns.new.text.items ≡ c.push_number.new.text.items
+    ++ fields (map (assign_word names) request.assigns)) =
     rw (fields-map (assign_word names) request.assigns) (search rules) in
     atomic-added c.push_assigns.result _ _ _ _ (hex_word request.flags) (decimal request.user_data) _ flagged numbered assigns

@@ -15,7 +15,8 @@ returns-in_ok-push_size-in-Buffer c =
     let front : c.push_front.new.text.items ≡ c.args.text.now.items ++ codes "buffer" ++ 32 ∷ name = search rules in
     let sized : c.push_size.new.text.items ≡ c.push_front.new.text.items ++ fields size = search rules in
     let words = fields-added r _ _ _ size pattern sized c.push_pattern.ensures in
-    rw b.is (line-ended r _ _ (codes "buffer") (name ∷ (size ++ pattern)) (front-added r _ _ _ (codes "buffer") name (size ++ pattern) front words))
+    rw b.is (line-ended r _ _ (codes "buffer") (name ∷ (size ++ pattern))
+    (front-added r _ _ _ (codes "buffer") name (size ++ pattern) front words))
 
 pub returns-in_ok-push_front-in-Mode : goal.returns-in_ok-push_front-in-Mode
 returns-in_ok-push_front-in-Mode c =
@@ -23,9 +24,11 @@ returns-in_ok-push_front-in-Mode c =
     let r = c.push_mode.result in
     let name = name_word c.args.names.now m.label in
     let front : c.push_front-in-Mode.new.text.items ≡ c.args.text.now.items ++ codes "mode" ++ 32 ∷ name = search rules in
-    rw m.is (line-ended r _ _ (codes "mode") (name ∷ spelt_mode m.mode) (front-added r _ _ _ (codes "mode") name (spelt_mode m.mode) front c.push_mode.ensures))
+    rw m.is (line-ended r _ _ (codes "mode") (name ∷ spelt_mode m.mode)
+    (front-added r _ _ _ (codes "mode") name (spelt_mode m.mode) front c.push_mode.ensures))
 
 pub returns-in-Atomic : goal.returns-in-Atomic
 returns-in-Atomic c =
     let q = c.in-Atomic.request in
-    rw c.in-Atomic.is (line-ended c.push_atomic.result _ _ (codes "atomic") (hex_word q.flags ∷ decimal q.user_data ∷ map (assign_word c.args.names.now) q.assigns) c.push_atomic.ensures)
+    rw c.in-Atomic.is (line-ended c.push_atomic.result _ _ (codes "atomic")
+    (hex_word q.flags ∷ decimal q.user_data ∷ map (assign_word c.args.names.now) q.assigns) c.push_atomic.ensures)

@@ -11,6 +11,9 @@ returns-in_ok-push_word-in-Pixels c =
     let format = c.args.format in
     let pixels = c.in-Pixels.pixels in
     let keyword : c.push_word-in-Pixels.new.text.items ≡ c.args.text.now.items ++ 32 ∷ codes "pixels" = search rules in
-    let words : OnOk c.push_pixels.result (c.push_pixels.new.text.items ≡ c.push_word-in-Pixels.new.text.items ++ flat_map (λ p. 32 ∷ pixel_word format p) pixels) = search rules in
-    let both : (32 ∷ codes "pixels") ++ flat_map (λ p. 32 ∷ pixel_word format p) pixels ≡ fields (pattern_words format c.args.pattern.now) = rw c.in-Pixels.is (ap (λ (bs : List ℕ). (32 ∷ codes "pixels") ++ bs) (sym (fields-map (pixel_word format) pixels))) in
+    let words : OnOk c.push_pixels.result (c.push_pixels.new.text.items ≡ c.push_word-in-Pixels.new.text.items
+    ++ flat_map (λ p. 32 ∷ pixel_word format p) pixels) = search rules in
+    let both : (32 ∷ codes "pixels") ++ flat_map (λ p. 32 ∷ pixel_word format p) pixels
+    ≡ fields (pattern_words format c.args.pattern.now) = rw c.in-Pixels.is
+    (ap (λ (bs : List ℕ). (32 ∷ codes "pixels") ++ bs) (sym (fields-map (pixel_word format) pixels))) in
     added c.push_pixels.result _ _ _ _ _ _ keyword words both

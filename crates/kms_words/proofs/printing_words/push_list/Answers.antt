@@ -8,8 +8,10 @@ pub loop-bit-preserved : goal.loop-bit-preserved
 loop-bit-preserved c =
     let is : has_bit c.args.mask c.loop-bit.bit ≡ true = search rules in
     let marked : c.extend_from_slice.new.self.items ≡ c.loop-bit.text.items ++ c.loop-bit.separator.now = search rules in
-    let now : c.push_item.new.text.items ≡ c.extend_from_slice.new.self.items ++ item_word c.args.items c.loop-bit.bit = search rules in record {
-      words = word_added _ _ c.loop-bit.separator.now _ _ (item_word c.args.items) c.args.mask c.loop-bit.bit is c.loop-bit.invariant.words c.loop-bit.invariant.mark marked now;
+    let now : c.push_item.new.text.items ≡ c.extend_from_slice.new.self.items ++ item_word c.args.items c.loop-bit.bit = search rules
+    in record {
+      words = word_added _ _ c.loop-bit.separator.now _ _ (item_word c.args.items) c.args.mask c.loop-bit.bit is c.loop-bit.invariant.words
+          c.loop-bit.invariant.mark marked now;
       mark = sym (comma_taken c.args.mask c.loop-bit.bit is);
     }
 

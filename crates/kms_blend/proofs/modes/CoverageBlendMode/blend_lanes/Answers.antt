@@ -5,7 +5,7 @@ use Rattle.kms_blend.proofs.Moves.{by_coverage, told}
 use Rattle.kms_blend.proofs.modes.CoverageBlendMode.blend_lanes.Goals as goal
 
 pub returns : goal.returns
-returns g c = as_lanes _ _ _ c.shifted.ensures (λ i below.
+returns g c = as_lanes _ _ _ c.shift.ensures (λ i below.
     let q : ℕ = slice_index c.args.q i in
     let f : ℕ = slice_index c.args.f i in
     let b : ℕ = slice_index c.args.b i in

@@ -5,7 +5,7 @@ use Rattle.kms_blend.proofs.Moves.{by_plane, told}
 use Rattle.kms_blend.proofs.modes.PlaneAlphaOnlyBlendMode.blend_lanes.Goals as goal
 
 pub returns : goal.returns
-returns g c = as_lanes _ _ _ c.shifted.ensures (λ i below.
+returns g c = as_lanes _ _ _ c.shift.ensures (λ i below.
     let f : ℕ = slice_index c.args.f i in
     let b : ℕ = slice_index c.args.b i in
     told _ f b b _ (c.downwards.ensures.lanes i below)

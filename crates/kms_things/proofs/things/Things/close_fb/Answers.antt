@@ -14,6 +14,7 @@ invariant_of-self c =
     let may = subst (λ (m : Made). close_refusal c.args.client (thing_with_id m.things c.args.id) ≡ None) (sym c.self.view_is) c.requires in
     rw c.close-2.ensures (record {
       kept = kept_closed items c.self.inside.next_id c.self.inside.ids c.self.inside.buffers c.args.id kept;
-      referred = referred_closed c.close.result items c.self.inside.next_id c.self.inside.fbs c.close.new.self c.args.client c.args.id c.close.ensures.store
+      referred = referred_closed c.close.result items c.self.inside.next_id c.self.inside.fbs c.close.new.self c.args.client c.args.id
+          c.close.ensures.store
           (c.close.ensures.things items referred.same) (c.close.ensures.refusal items kept.numbered referred.same ∙ may) referred;
     })

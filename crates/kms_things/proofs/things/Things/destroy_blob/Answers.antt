@@ -9,6 +9,8 @@ pub invariant_of-self : goal.invariant_of-self
 invariant_of-self c =
     let blob = subst (λ (m : Made). IsBlobAt m.things c.args.id) (sym c.self.view_is) c.requires in
     rw c.close.ensures (record {
-      kept = kept_closed c.self.inside.made.items c.self.inside.next_id c.self.inside.ids c.self.inside.buffers c.args.id c.self.invariant.kept;
-      referred = referred_destroyed c.self.inside.made.items c.self.inside.next_id c.self.inside.fbs c.args.id c.self.invariant.kept.numbered blob c.self.invariant.referred;
+      kept = kept_closed c.self.inside.made.items c.self.inside.next_id c.self.inside.ids c.self.inside.buffers c.args.id
+          c.self.invariant.kept;
+      referred = referred_destroyed c.self.inside.made.items c.self.inside.next_id c.self.inside.fbs c.args.id
+          c.self.invariant.kept.numbered blob c.self.invariant.referred;
     })

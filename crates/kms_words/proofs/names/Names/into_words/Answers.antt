@@ -6,4 +6,5 @@ use Rattle.kms_words.proofs.names.Names.into_words.Goals as goal
 
 pub returns-clause-words : goal.returns-clause-words
 returns-clause-words c =
-    c.into_words.ensures.words ∙ (sym (marked_words (is_in_numbers c.self.inside.made.keys) 0 c.self.inside.numbering) ∙ ap (λ h. words_in h.names) c.self.view_is)
+    c.into_words.ensures.words ∙ (sym (marked_words (is_in_numbers c.self.inside.made.keys) 0 c.self.inside.numbering) ∙ ap
+    (λ h. words_in h.names) c.self.view_is)

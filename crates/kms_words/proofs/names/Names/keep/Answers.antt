@@ -10,4 +10,6 @@ returns-clause-profile c = ap (λ h. h.before.profile) c.undo.ensures ∙ ap (λ
 
 pub returns-clause-names : goal.returns-clause-names
 returns-clause-names c =
-    c.undo.ensures ∙ ap₂ kept (ap (λ h. h.names.profile) c.self.view_is) (rw c.len-self-inside.ensures (take-length c.self.inside.numbering ∙ (sym (marked_words (is_in_numbers c.self.inside.made.keys) 0 c.self.inside.numbering) ∙ ap (λ h. words_in h.names) c.self.view_is)))
+    c.undo.ensures ∙ ap₂ kept (ap (λ h. h.names.profile) c.self.view_is)
+    (rw c.len-self-inside.ensures (take-length c.self.inside.numbering ∙
+    (sym (marked_words (is_in_numbers c.self.inside.made.keys) 0 c.self.inside.numbering) ∙ ap (λ h. words_in h.names) c.self.view_is)))

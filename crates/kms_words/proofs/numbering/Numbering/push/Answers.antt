@@ -11,5 +11,7 @@ invariant_of-self-in-Ok c =
     let before = c.self.inside.words.items in
     let pushed : c.push.new.self.items ≡ before ++ c.args.word.now ∷ [] = search rules in
     let none : place_among c.args.word.now before ≡ None = rw c.self.view_is c.requires.new in
-    let updates : tree.UpdatesBy (λ x y. slice_cmp nat_cmp x.items y.items) (λ k. slice_cmp nat_cmp c.in_ok-key.key.items k.items) c.self.inside.numbers c.insert.new.self (Some (length before)) = search rules in
-    rw pushed (numbered_last before c.in_ok-key.key c.args.word.now c.self.inside.numbers c.insert.new.self c.self.invariant c.in_ok-key.ensures.items none updates)
+    let updates : tree.UpdatesBy (λ x y. slice_cmp nat_cmp x.items y.items) (λ k. slice_cmp nat_cmp c.in_ok-key.key.items k.items)
+    c.self.inside.numbers c.insert.new.self (Some (length before)) = search rules in
+    rw pushed (numbered_last before c.in_ok-key.key c.args.word.now c.self.inside.numbers c.insert.new.self c.self.invariant
+    c.in_ok-key.ensures.items none updates)

@@ -2,7 +2,7 @@ use Rattle.std.proofs.Common.{ℕ, w16}
 use lib.IntN.{nat_abs}
 use mir.Val.{to_z}
 use Rattle.kms_blend.proofs.LaneByLane.{as_lanes, bounded_lane, chosen, each, fit_bytes, less, splat, widened}
-use Rattle.kms_blend.proofs.lanes.packed.Goals as goal
+use Rattle.kms_blend.proofs.lanes.pack.Goals as goal
 
 pub overflow_cast-result-2 : goal.overflow_cast-result-2
 overflow_cast-result-2 c =

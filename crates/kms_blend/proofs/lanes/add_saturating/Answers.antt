@@ -1,6 +1,6 @@
 use Rattle.std.proofs.Common.{w8, arith}
 use Rattle.kms_blend.proofs.LaneByLane.{add8, as_lanes, both, byte, least, own, splat, sub8}
-use Rattle.kms_blend.proofs.lanes.saturated.Goals as goal
+use Rattle.kms_blend.proofs.lanes.add_saturating.Goals as goal
 
 pub returns : goal.returns
 returns c =

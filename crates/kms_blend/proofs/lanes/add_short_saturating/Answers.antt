@@ -1,6 +1,6 @@
 use Rattle.std.proofs.Common.{w16, arith}
 use Rattle.kms_blend.proofs.LaneByLane.{add16, as_lanes, both, least, own, short, splat, sub16}
-use Rattle.kms_blend.proofs.lanes.short_saturated.Goals as goal
+use Rattle.kms_blend.proofs.lanes.add_short_saturating.Goals as goal
 
 pub returns : goal.returns
 returns c =
