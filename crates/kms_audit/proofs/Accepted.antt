@@ -1,12 +1,14 @@
 -- The walk behind an entry that is right.
-use Rattle.std.proofs.Common.{◌≡◌, ℕ, ◌+◌, ◌-◌, ◌<◌, ◌≤◌, Bool, true, false, List, [], ◌∷◌, ◌++◌, length, take, Option, Some, None, refl, sym, ap, ◌∙◌, subst, arith, inl, inr, add-one}
+use Rattle.std.proofs.Common.{◌≡◌, ℕ, ◌+◌, ◌-◌, ◌<◌, ◌≤◌, Bool, true, false, List, [], ◌∷◌, ◌++◌, length, take, Option, Some, None, refl}
+use Rattle.std.proofs.Common.{sym, ap, ◌∙◌, subst, arith, inl, inr, add-one}
 use Rattle.std.proofs.lemmas.Bool.{and_parts, cases_eq, eq-eqb, ne_eqb, not-true}
 use Rattle.std.proofs.lemmas.List.{append-nil, get_or-set_other, get_or-set_same, length-set}
 use Rattle.std.specs.Prelude.{◌&&◌, ◌⊎◌, is_none, not, slice_get, slice_index_or, slice_set, if◌then◌else◌}
 use Rattle.kms_audit.proofs.Entering.{is_as_entered, last_number-push, small-step}
 use Rattle.kms_audit.proofs.Executions.{committed-executed, committed-world, entered-request, other-commits}
 use Rattle.kms_audit.proofs.Firsts.{off-push}
-use Rattle.kms_audit.proofs.Journals.{commits-other, commits-request, last_touch-other, last_touch-request, owners-other, owners-request, show-last}
+use Rattle.kms_audit.proofs.Journals.{commits-other, commits-request, last_touch-other, last_touch-request, owners-other, owners-request}
+use Rattle.kms_audit.proofs.Journals.{show-last}
 use Rattle.kms_audit.proofs.Leasts.{get-within}
 use Rattle.kms_audit.proofs.Tracks.{track-last}
 use Rattle.kms_audit.specs.declared.frames.KeptDigest.{KeptDigest}
@@ -17,7 +19,8 @@ use Rattle.kms_audit.specs.Latching.{AreTracks, AreWithin, no_track, pictured_no
 use Rattle.kms_audit.specs.Owned.{AreOwners}
 use Rattle.kms_audit.specs.Touching.{TellTouches, is_touched_in, last_in, noted}
 use Rattle.kms_audit.specs.Compared.{AreCompared}
-use Rattle.kms_audit.specs.Walked.{AreCounted, IsEntered, IsKeptAt, IsNextWalk, IsNoted, NotesCommit, NotesNothing, is_above_last, last_number}
+use Rattle.kms_audit.specs.Walked.{AreCounted, IsEntered, IsKeptAt, IsNextWalk, IsNoted, NotesCommit, NotesNothing, is_above_last}
+use Rattle.kms_audit.specs.Walked.{last_number}
 use Rattle.kms_laws.proofs.Composed.{can-stays}
 use Rattle.kms_laws.proofs.FramesStay.{frame-stays}
 use Rattle.kms_laws.proofs.Staying.{Stay, stay-execute}

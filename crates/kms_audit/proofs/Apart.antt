@@ -5,7 +5,8 @@ use Rattle.std.specs.Prelude.{◌&&◌, ◌==◌, is_some, nat_le, nat_lt, lengt
 use Rattle.std.specs.List.{last_or}
 use Rattle.std.specs.Option.{option_map_or}
 use Rattle.kms_audit.proofs.Firsts.{earliest-second, off-both, off-same, off-take}
-use Rattle.kms_audit.specs.Sections.{client_before, comes_behind, earliest, has_command, is_pictured, is_placed, is_replied, may_follow, rises, stands_in_order, tells_picture}
+use Rattle.kms_audit.specs.Sections.{client_before, comes_behind, earliest, has_command, is_pictured, is_placed, is_replied, may_follow}
+use Rattle.kms_audit.specs.Sections.{rises, stands_in_order, tells_picture}
 use Rattle.kms_model.specs.declared.objects.Kind.TheVariants.{Crtc}
 use Rattle.kms_model.specs.declared.pictures.Picture.{Picture}
 use Rattle.kms_model.specs.declared.pictures.Picture.TheVariants.{Off, On}
@@ -16,8 +17,10 @@ use Rattle.kms_model.specs.declared.scripts.Script.{Script}
 use Rattle.kms_model.specs.Device.Objects.{exists, object_id}
 use Rattle.kms_model.specs.Device.Serial.{Pictured, command_of, show}
 use Rattle.kms_model.specs.Headline.{entry_answered}
-use Rattle.kms_model.specs.Report.Right.{LatchLine, is_not_below, last_count, latch_is_right, latches_in, lines_of_crtc, may_count, same_digest, tells_of}
-use Rattle.kms_model.specs.Report.RightAnswers.{answer_is_right, entries_in, first_off, has_place, is_in_turn, may_come_behind, reply_is_right, reply_is_right_to}
+use Rattle.kms_model.specs.Report.Right.{LatchLine, is_not_below, last_count, latch_is_right, latches_in, lines_of_crtc, may_count}
+use Rattle.kms_model.specs.Report.Right.{same_digest, tells_of}
+use Rattle.kms_model.specs.Report.RightAnswers.{answer_is_right, entries_in, first_off, has_place, is_in_turn, may_come_behind}
+use Rattle.kms_model.specs.Report.RightAnswers.{reply_is_right, reply_is_right_to}
 use Rattle.kms_model.specs.Report.SeenReport.{digest_shown}
 
 -- R lines

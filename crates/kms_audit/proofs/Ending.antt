@@ -1,5 +1,6 @@
 -- The D line: labels of fences, and what is drained.
-use Rattle.std.proofs.Common.{◌≡◌, ℕ, zero, suc, ◌+◌, ◌-◌, ◌<◌, ◌≤◌, Bool, true, false, List, [], ◌∷◌, ◌++◌, length, get_or, take, drop, Option, Some, None, refl, sym, ap, ◌∙◌, subst, arith, append_assoc}
+use Rattle.std.proofs.Common.{◌≡◌, ℕ, zero, suc, ◌+◌, ◌-◌, ◌<◌, ◌≤◌, Bool, true, false, List, [], ◌∷◌, ◌++◌, length, get_or, take, drop}
+use Rattle.std.proofs.Common.{Option, Some, None, refl, sym, ap, ◌∙◌, subst, arith, append_assoc}
 use Rattle.std.proofs.lemmas.Bool.{and_left, cond-true, eqb-true, lt-ltb, not_from_false, or_left, or_right}
 use Rattle.std.proofs.lemmas.List.{append-nil, take_all}
 use Rattle.std.proofs.lemmas.List.Quantifiers.{position-Some}
@@ -41,7 +42,8 @@ use Rattle.kms_model.specs.Device.Serial.{Pictured, serial, show}
 use Rattle.kms_model.specs.Device.World.{thing_labelled}
 use Rattle.kms_model.specs.Firsts.{denied_if}
 use Rattle.kms_model.specs.Machine.Histories.{is_made_by_command}
-use Rattle.kms_model.specs.Report.Right.{LatchLine, all_is_answered, all_is_latched, commands_from, end_is_right, is_right_end, label_is_of_fence, latch_is_right, latches_in, lines_of_crtc}
+use Rattle.kms_model.specs.Report.Right.{LatchLine, all_is_answered, all_is_latched, commands_from, end_is_right, is_right_end}
+use Rattle.kms_model.specs.Report.Right.{label_is_of_fence, latch_is_right, latches_in, lines_of_crtc}
 use Rattle.kms_model.specs.Report.RightAnswers.{entries_in, first_off, has_answer}
 use Rattle.kms_model.specs.Script.WellFormed.{IsWellFormed}
 use Rattle.kms_serial.specs.Device.{Device}

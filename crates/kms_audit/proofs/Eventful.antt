@@ -1,5 +1,6 @@
 -- E lines: the loop that finds the first that is not right.
-use Rattle.std.proofs.Common.{◌≡◌, ℕ, ◌+◌, ◌<◌, ◌≤◌, Bool, true, false, List, [], ◌∷◌, ◌++◌, length, get_or, take, drop, Some, None, refl, sym, ap, ◌∙◌, subst, arith}
+use Rattle.std.proofs.Common.{◌≡◌, ℕ, ◌+◌, ◌<◌, ◌≤◌, Bool, true, false, List, [], ◌∷◌, ◌++◌, length, get_or, take, drop, Some, None, refl}
+use Rattle.std.proofs.Common.{sym, ap, ◌∙◌, subst, arith}
 use Rattle.std.proofs.lemmas.List.{take_more}
 use Rattle.std.specs.Prelude.{◌&&◌, is_some, nat_lt, slice_get}
 use Rattle.std.specs.List.{count_by}
@@ -13,7 +14,8 @@ use Rattle.kms_audit.proofs.Orders.{client-of}
 use Rattle.kms_audit.specs.declared.events.Reader.{Reader}
 use Rattle.kms_audit.specs.declared.order.Block.{Block}
 use Rattle.kms_audit.specs.declared.owners.Owner.{Owner}
-use Rattle.kms_audit.specs.Eventing.{AreLeft, AreOwed, AreRightBefore, EventFields, EventKey, IsReadTo, IsTaken, is_owed, key_of, next_reader, owed_at, owed_by}
+use Rattle.kms_audit.specs.Eventing.{AreLeft, AreOwed, AreRightBefore, EventFields, EventKey, IsReadTo, IsTaken, is_owed, key_of}
+use Rattle.kms_audit.specs.Eventing.{next_reader, owed_at, owed_by}
 use Rattle.kms_audit.specs.Latching.{LatchFields}
 use Rattle.kms_audit.specs.Ordered.{no_block}
 use Rattle.kms_model.specs.declared.replies.Answered.{Answered}

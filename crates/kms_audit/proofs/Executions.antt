@@ -1,5 +1,6 @@
 -- What the device of one thread does with a command: when it is accepted, and what stays of the values and of the number of commits.
-use Rattle.std.proofs.Common.{◌≡◌, ℕ, zero, suc, ◌+◌, ◌≤◌, Bool, true, false, List, [], ◌∷◌, length, Option, Some, None, refl, sym, ap, ◌∙◌, subst, arith}
+use Rattle.std.proofs.Common.{◌≡◌, ℕ, zero, suc, ◌+◌, ◌≤◌, Bool, true, false, List, [], ◌∷◌, length, Option, Some, None, refl, sym, ap, ◌∙◌}
+use Rattle.std.proofs.Common.{subst, arith}
 use Rattle.std.proofs.lemmas.Bool.{cond-false}
 use Rattle.std.specs.Prelude.{◌&&◌, is_none, not}
 use Rattle.std.specs.Option.{option_and_then}
@@ -14,7 +15,9 @@ use Rattle.kms_model.specs.declared.scripts.Command.TheVariants as command
 use Rattle.kms_model.specs.declared.scripts.Request.{Request}
 use Rattle.kms_model.specs.declared.scripts.Script.{Script}
 use Rattle.kms_model.specs.declared.worlds.World.{World}
-use Rattle.kms_model.specs.Device.Execution.{Executed, BufferInfo, add_fb, answer, buffer_of, close_refusal, close_unless, commit, committed, destroy_refusal, execute, make_out_fence, make_out_fences, make_unless, new_buffer_refusal, signal_refusal, signal_unless}
+use Rattle.kms_model.specs.Device.Execution.{Executed, BufferInfo, add_fb, answer, buffer_of, close_refusal, close_unless, commit}
+use Rattle.kms_model.specs.Device.Execution.{committed, destroy_refusal, execute, make_out_fence, make_out_fences, make_unless}
+use Rattle.kms_model.specs.Device.Execution.{new_buffer_refusal, signal_refusal, signal_unless}
 use Rattle.kms_model.specs.Device.Objects.{ids_of}
 use Rattle.kms_model.specs.declared.objects.Kind.TheVariants.{Crtc}
 use Rattle.kms_model.specs.Device.Serial.{Entry, command_of, from_one, is_accepted}

@@ -1,6 +1,7 @@
 -- A well-formed script has fewer names than a number of 32 bits: each command brings at most two, a request two for each
 -- assignment, and the commands and their assignments are few.
-use Rattle.std.proofs.Common.{◌≡◌, ◌≤◌, ℕ, suc, ◌+◌, ◌*◌, Bool, true, false, not, cond, List, [], ◌∷◌, ◌++◌, length, Option, Some, None, refl, sym, subst, arith}
+use Rattle.std.proofs.Common.{◌≡◌, ◌≤◌, ℕ, suc, ◌+◌, ◌*◌, Bool, true, false, not, cond, List, [], ◌∷◌, ◌++◌, length, Option, Some, None}
+use Rattle.std.proofs.Common.{refl, sym, subst, arith}
 use Rattle.std.specs.Prelude.{◌==◌, ◌||◌, ◌&&◌, ⊤, codes, nat_le, nat_lt, option_map, Ok, Err, if◌then◌else◌}
 use Rattle.std.specs.List.{AllByRecursion, list_all}
 use Rattle.std.specs.Option.{option_map_or}
@@ -16,12 +17,17 @@ use Rattle.kms_model.specs.declared.scripts.PropRef.TheVariants.{Known, Unknown}
 use Rattle.kms_model.specs.declared.scripts.Script.{Script}
 use Rattle.kms_model.specs.declared.scripts.Value.{Value}
 use Rattle.kms_model.specs.declared.scripts.Why.{Why}
-use Rattle.kms_model.specs.Script.CommandLines.{Name, Names, addfb_read, assign_read, assign_words, assigns_read, atomic_read, blob_read, buffer_read, command_read, is_over, label_alone, label_read, made, making, making_read, mode_fields, mode_read, naming_read, or_form, pattern_at, place, property_read, said, saying, thing_read, unless, value_read}
+use Rattle.kms_model.specs.Script.CommandLines.{Name, Names, addfb_read, assign_read, assign_words, assigns_read, atomic_read, blob_read}
+use Rattle.kms_model.specs.Script.CommandLines.{buffer_read, command_read, is_over, label_alone, label_read, made, making, making_read}
+use Rattle.kms_model.specs.Script.CommandLines.{mode_fields, mode_read, naming_read, or_form, pattern_at, place, property_read, said}
+use Rattle.kms_model.specs.Script.CommandLines.{saying, thing_read, unless, value_read}
 use Rattle.kms_model.specs.Script.Grammar.{blob_bytes, field_words, format_at, hex_at, int, is_printable, known_property}
 use Rattle.kms_model.specs.Script.InputLines.{Row, rows_of}
 use Rattle.kms_model.specs.Script.Spelling.{lined, spelt_line, spelt_lines}
 use Rattle.kms_model.specs.Script.WellFormed.{IsFitClient, IsFitCommand, IsWellFormed}
-use Rattle.kms_model.specs.Script.WholeInput.{Draft, Lined, blank_draft, client_line, clients_in, clients_of, command_line, conn_at, conn_line, crtcs_at, crtcs_line, first_line, is_nil, later_line, plane_fields, plane_line, script_in, script_line, version_read}
+use Rattle.kms_model.specs.Script.WholeInput.{Draft, Lined, blank_draft, client_line, clients_in, clients_of, command_line, conn_at}
+use Rattle.kms_model.specs.Script.WholeInput.{conn_line, crtcs_at, crtcs_line, first_line, is_nil, later_line, plane_fields, plane_line}
+use Rattle.kms_model.specs.Script.WholeInput.{script_in, script_line, version_read}
 use Rattle.kms_model.specs.Script.Words.{dec, dec_at, end_at, field_at, from, is_label, label_at, strip, until}
 
 -- Names, one more

@@ -1,5 +1,6 @@
 -- What a report implies whose lines are all right.
-use Rattle.std.proofs.Common.{◌≡◌, ℕ, zero, suc, ◌+◌, ◌<◌, ◌≤◌, Bool, true, false, List, [], ◌∷◌, ◌++◌, length, get_or, take, Option, Some, None, refl, sym, ap, ◌∙◌, subst, arith, inl, inr, length-append}
+use Rattle.std.proofs.Common.{◌≡◌, ℕ, zero, suc, ◌+◌, ◌<◌, ◌≤◌, Bool, true, false, List, [], ◌∷◌, ◌++◌, length, get_or, take, Option, Some}
+use Rattle.std.proofs.Common.{None, refl, sym, ap, ◌∙◌, subst, arith, inl, inr, length-append}
 use Rattle.std.proofs.lemmas.Bool.{and_parts, cases_eq, cond-false, cond-true, eqb-true, leb-true, not-false, or_cases}
 use Rattle.std.proofs.lemmas.List.{append-nil, length-map, nil_from_length}
 use Rattle.std.proofs.lemmas.Option.{slice_get-get_or, slice_get-map, same_Some}
@@ -26,8 +27,13 @@ use Rattle.kms_model.specs.Device.Objects.{exists, object_id}
 use Rattle.kms_model.specs.Device.Serial.{Entry, Pictured, command_of, is_accepted, serial, show}
 use Rattle.kms_model.specs.Firsts.{number_if}
 use Rattle.kms_model.specs.Headline.{IsPrefixOf, IsVerdict, IsVerdictOnRequest, StandsAtPlace, entry_answered}
-use Rattle.kms_model.specs.Report.Right.{LatchLine, end_is_right, event_is_right, events_are_whole, first_wrong, freed_is_right, is_not_below, is_right_end, all_is_answered, all_is_latched, last_count, latch_is_right, latches_in, lines_of_crtc, number_at, same_digest, tells_of, may_count}
-use Rattle.kms_model.specs.Report.RightAnswers.{answer_is_right, answers_are_whole, answers_in, entries_in, entry_is_right, first_off, has_place, is_above, is_devices_reply, is_entered_in, is_in_turn, is_refused_late_at, is_to_entry, may_be_refused_late, may_come_behind, reply_is_right, reply_is_right_to, same_reply, world_at}
+use Rattle.kms_model.specs.Report.Right.{LatchLine, end_is_right, event_is_right, events_are_whole, first_wrong, freed_is_right}
+use Rattle.kms_model.specs.Report.Right.{is_not_below, is_right_end, all_is_answered, all_is_latched, last_count, latch_is_right}
+use Rattle.kms_model.specs.Report.Right.{latches_in, lines_of_crtc, number_at, same_digest, tells_of, may_count}
+use Rattle.kms_model.specs.Report.RightAnswers.{answer_is_right, answers_are_whole, answers_in, entries_in, entry_is_right, first_off}
+use Rattle.kms_model.specs.Report.RightAnswers.{has_place, is_above, is_devices_reply, is_entered_in, is_in_turn, is_refused_late_at}
+use Rattle.kms_model.specs.Report.RightAnswers.{is_to_entry, may_be_refused_late, may_come_behind, reply_is_right, reply_is_right_to}
+use Rattle.kms_model.specs.Report.RightAnswers.{same_reply, world_at}
 use Rattle.kms_model.specs.Report.SeenReport.{digest_shown}
 use Rattle.kms_model.specs.Request.Flags.{is_test}
 use Rattle.kms_model.specs.Request.Verdict.{verdict}

@@ -1,6 +1,8 @@
 -- Places among items, and what the maps of J and R lines tell of a report.
-use Rattle.std.proofs.Common.{◌≡◌, ℕ, ◌+◌, Bool, true, false, List, [], ◌∷◌, ◌++◌, length, Option, Some, None, refl, sym, ap, ◌∙◌, arith, inl, inr, Ordering, Less, Equal, Greater}
-use Rattle.std.proofs.lemmas.Bool.{and_from, and_left, and_parts, and_right, eq-eqb, eqb-true, ne_eqb, not-true, or_cases, or_left, or_parts}
+use Rattle.std.proofs.Common.{◌≡◌, ℕ, ◌+◌, Bool, true, false, List, [], ◌∷◌, ◌++◌, length, Option, Some, None, refl, sym, ap, ◌∙◌, arith}
+use Rattle.std.proofs.Common.{inl, inr, Ordering, Less, Equal, Greater}
+use Rattle.std.proofs.lemmas.Bool.{and_from, and_left, and_parts, and_right, eq-eqb, eqb-true, ne_eqb, not-true, or_cases, or_left}
+use Rattle.std.proofs.lemmas.Bool.{or_parts}
 use Rattle.std.proofs.lemmas.Bool.Decides.{nat_tests}
 use Rattle.std.proofs.lemmas.List.Folds.{list_any-append}
 use Rattle.std.specs.BTreeMap as tree
@@ -18,7 +20,8 @@ use Rattle.kms_model.specs.declared.replies.Answered.{Answered}
 use Rattle.kms_model.specs.declared.replies.Reply.{Reply}
 use Rattle.kms_model.specs.declared.reports.Report.{Report}
 use Rattle.kms_model.specs.Device.Serial.{Entry}
-use Rattle.kms_model.specs.Report.RightAnswers.{answer_from, answers_are_whole, client_is_whole, entries_in, entry_from, entry_place, has_answer, is_answer_to, no_client_is_silent}
+use Rattle.kms_model.specs.Report.RightAnswers.{answer_from, answers_are_whole, client_is_whole, entries_in, entry_from, entry_place}
+use Rattle.kms_model.specs.Report.RightAnswers.{has_answer, is_answer_to, no_client_is_silent}
 
 -- The place of the first item that passes
 

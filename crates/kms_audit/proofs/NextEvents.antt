@@ -1,5 +1,6 @@
 -- The next event of some R lines, looked for one line after the other; and L lines that are left, one by one.
-use Rattle.std.proofs.Common.{◌≡◌, ℕ, suc, ◌+◌, ◌-◌, ◌<◌, ◌≤◌, Bool, true, false, List, ◌∷◌, length, get_or, take, drop, Option, Some, None, refl, sym, ap, ◌∙◌, subst, arith, inl, inr}
+use Rattle.std.proofs.Common.{◌≡◌, ℕ, suc, ◌+◌, ◌-◌, ◌<◌, ◌≤◌, Bool, true, false, List, ◌∷◌, length, get_or, take, drop, Option, Some, None}
+use Rattle.std.proofs.Common.{refl, sym, ap, ◌∙◌, subst, arith, inl, inr}
 use Rattle.std.proofs.lemmas.Bool.{cases_eq, cases_lt, cond-false, cond-true, eq-eqb, le-ltb, lt-ltb, ne_eqb}
 use Rattle.std.proofs.lemmas.List.{drop_more, get_or_past, length-take, take_more}
 use Rattle.std.proofs.lemmas.List.Sums.{count_by-le-length}
@@ -13,7 +14,8 @@ use Rattle.kms_audit.proofs.Owed.{one-less, owed-push}
 use Rattle.kms_audit.specs.declared.events.Reader.{Reader}
 use Rattle.kms_audit.specs.declared.order.Block.{Block}
 use Rattle.kms_audit.specs.declared.owners.Owner.{Owner}
-use Rattle.kms_audit.specs.Eventing.{AreOwed, EventFields, EventKey, IsTaken, ReplyFields, block_of, event_at, is_owed, key_cmp, key_of, next_event, next_reader, owed_at, owed_by, reader_behind, reader_if, tells_event, turned}
+use Rattle.kms_audit.specs.Eventing.{AreOwed, EventFields, EventKey, IsTaken, ReplyFields, block_of, event_at, is_owed, key_cmp, key_of}
+use Rattle.kms_audit.specs.Eventing.{next_event, next_reader, owed_at, owed_by, reader_behind, reader_if, tells_event, turned}
 use Rattle.kms_audit.specs.Latching.{LatchFields}
 use Rattle.kms_audit.specs.Ordered.{AreBlocksWithin, no_block}
 use Rattle.kms_model.specs.declared.replies.Event.{Event}

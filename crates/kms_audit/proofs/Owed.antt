@@ -1,5 +1,6 @@
 -- L lines that are left for events: what the map tells, and that it counts the lines that fit.
-use Rattle.std.proofs.Common.{◌≡◌, ℕ, zero, suc, ◌+◌, ◌-◌, ◌<◌, Bool, true, false, List, [], ◌∷◌, ◌++◌, length, Option, Some, None, refl, sym, ap, ◌∙◌, subst, arith, inl, inr, Ordering, Less, Equal, Greater}
+use Rattle.std.proofs.Common.{◌≡◌, ℕ, zero, suc, ◌+◌, ◌-◌, ◌<◌, Bool, true, false, List, [], ◌∷◌, ◌++◌, length, Option, Some, None, refl}
+use Rattle.std.proofs.Common.{sym, ap, ◌∙◌, subst, arith, inl, inr, Ordering, Less, Equal, Greater}
 use Rattle.std.proofs.lemmas.Bool.{and_parts, cases_order, cond-false, cond-true, eq-eqb, eqb-true, ltb-true, ne_eqb}
 use Rattle.std.proofs.lemmas.Bool.Decides.{nat_tests}
 use Rattle.std.proofs.lemmas.List.{length-append, length-reverse, reverse-append}
@@ -13,7 +14,8 @@ use Rattle.std.specs.Ordering.{is_eq, nat_cmp, ordering_then}
 use Rattle.std.specs.Prelude.{◌%◌, ◌&&◌, ◌==◌, ◌^◌, ◌⊎◌, cond, filter, map, nat_lt, option_map, reverse, slice_get, if◌then◌else◌}
 use Rattle.kms_audit.proofs.Indices.{same_number, swapped}
 use Rattle.kms_audit.specs.declared.owners.Owner.{Owner}
-use Rattle.kms_audit.specs.Eventing.{AreLeft, AreOwed, EventFields, EventKey, IsTaken, is_owed, key_cmp, key_of, owed_at, owed_by, owed_from, same_key}
+use Rattle.kms_audit.specs.Eventing.{AreLeft, AreOwed, EventFields, EventKey, IsTaken, is_owed, key_cmp, key_of, owed_at, owed_by}
+use Rattle.kms_audit.specs.Eventing.{owed_from, same_key}
 use Rattle.kms_audit.specs.Latching.{LatchFields}
 use Rattle.kms_audit.specs.Owned.{AreOwners, owner_of}
 use Rattle.kms_model.specs.declared.objects.Kind.TheVariants.{Crtc}

@@ -1,5 +1,6 @@
 -- The first wrong line, section by section: what the sections before one being right tells, and how high its number may be.
-use Rattle.std.proofs.Common.{◌≡◌, ℕ, ◌+◌, ◌-◌, ◌<◌, ◌≤◌, Bool, true, false, List, [], ◌∷◌, ◌++◌, length, get_or, take, Option, Some, None, refl, sym, ap, ◌∙◌, subst, arith}
+use Rattle.std.proofs.Common.{◌≡◌, ℕ, ◌+◌, ◌-◌, ◌<◌, ◌≤◌, Bool, true, false, List, [], ◌∷◌, ◌++◌, length, get_or, take, Option, Some, None}
+use Rattle.std.proofs.Common.{refl, sym, ap, ◌∙◌, subst, arith}
 use Rattle.std.proofs.lemmas.List.{length-map, length-take, take_all}
 use Rattle.std.proofs.lemmas.Option.{slice_get-get_or}
 use Rattle.std.specs.Option.{option_map_or}
@@ -16,14 +17,17 @@ use Rattle.kms_audit.specs.Eventing.{AreClientsFew, AreRightBefore, AreShort}
 use Rattle.kms_audit.specs.Latching.{first_unmet}
 use Rattle.kms_audit.specs.Ordered.{AreBlocks, AreBlocksWithin, IsOrdered, IsWholeOrder, no_block, ordered_lines}
 use Rattle.kms_audit.specs.Owned.{AreOwners}
-use Rattle.kms_audit.specs.Sections.{AreRightToLatches, answers_wrong, behind_answers, behind_events, behind_latches, comes_behind, earliest, entries_wrong, is_pictured, is_placed, is_replied, stands_in_order}
+use Rattle.kms_audit.specs.Sections.{AreRightToLatches, answers_wrong, behind_answers, behind_events, behind_latches, comes_behind}
+use Rattle.kms_audit.specs.Sections.{earliest, entries_wrong, is_pictured, is_placed, is_replied, stands_in_order}
 use Rattle.kms_audit.specs.Walked.{IsWalked}
 use Rattle.kms_model.proofs.TouchedLemmas.{few_objects}
 use Rattle.kms_model.specs.declared.reports.Report.{Report}
 use Rattle.kms_model.specs.declared.scripts.Script.{Script}
 use Rattle.kms_model.specs.Firsts.{number_if, or_else}
-use Rattle.kms_model.specs.Report.Right.{end_is_right, event_is_right, events_are_whole, first_wrong, freed_is_right, latch_from, latch_is_right, latches_in, number_at}
-use Rattle.kms_model.specs.Report.RightAnswers.{answer_from, answer_is_right, answers_are_whole, answers_in, entries_in, entry_from, entry_is_right, first_off}
+use Rattle.kms_model.specs.Report.Right.{end_is_right, event_is_right, events_are_whole, first_wrong, freed_is_right, latch_from}
+use Rattle.kms_model.specs.Report.Right.{latch_is_right, latches_in, number_at}
+use Rattle.kms_model.specs.Report.RightAnswers.{answer_from, answer_is_right, answers_are_whole, answers_in, entries_in, entry_from}
+use Rattle.kms_model.specs.Report.RightAnswers.{entry_is_right, first_off}
 use Rattle.kms_model.specs.Script.WellFormed.{IsWellFormed}
 
 -- The lower of two places

@@ -1,9 +1,12 @@
 -- E lines against the events that R lines tell: where a client's events are read on.
-use Rattle.std.proofs.Common.{◌≡◌, ℕ, zero, suc, ◌+◌, ◌-◌, ◌<◌, ◌≤◌, Bool, true, false, List, [], ◌∷◌, ◌++◌, length, take, drop, Option, Some, None, refl, sym, ap, ◌∙◌, subst, arith, inl, inr, length-append}
-use Rattle.std.proofs.lemmas.Bool.{and_left, and_right, cases_lt, cond-false, cond-true, eq-eqb, eqb-false, eqb-true, false_from_ne_true, le-leb, lt-leb, ltb-false, ltb-true, ne_eqb}
+use Rattle.std.proofs.Common.{◌≡◌, ℕ, zero, suc, ◌+◌, ◌-◌, ◌<◌, ◌≤◌, Bool, true, false, List, [], ◌∷◌, ◌++◌, length, take, drop, Option}
+use Rattle.std.proofs.Common.{Some, None, refl, sym, ap, ◌∙◌, subst, arith, inl, inr, length-append}
+use Rattle.std.proofs.lemmas.Bool.{and_left, and_right, cases_lt, cond-false, cond-true, eq-eqb, eqb-false, eqb-true, false_from_ne_true}
+use Rattle.std.proofs.lemmas.Bool.{le-leb, lt-leb, ltb-false, ltb-true, ne_eqb}
 use Rattle.std.proofs.lemmas.List.{drop-drop, drop-map, drop-take, get_or_past, length-take, take-map}
 use Rattle.std.proofs.lemmas.Option.{same_Some, slice_get_past}
-use Rattle.std.specs.Prelude.{◌&&◌, ◌==◌, ◌⊎◌, cond, filter, is_some, map, nat_le, nat_lt, option_map, slice_get, slice_index_or, if◌then◌else◌}
+use Rattle.std.specs.Prelude.{◌&&◌, ◌==◌, ◌⊎◌, cond, filter, is_some, map, nat_le, nat_lt, option_map, slice_get, slice_index_or}
+use Rattle.std.specs.Prelude.{if◌then◌else◌}
 use Rattle.std.specs.List.{cons_option, filter_map, last_or, position}
 use Rattle.std.specs.Option.{option_and_then, option_map_or}
 use Rattle.kms_audit.proofs.Blockwise.{get_drop, get_take}
@@ -13,7 +16,8 @@ use Rattle.kms_audit.proofs.Leasts.{get-within, last-push}
 use Rattle.kms_audit.proofs.Tracks.{drop_get, drop_more_is, drop_none}
 use Rattle.kms_audit.specs.declared.events.Reader.{Reader}
 use Rattle.kms_audit.specs.declared.order.Block.{Block}
-use Rattle.kms_audit.specs.Eventing.{EventFields, IsReadTo, ReplyFields, block_of, event_at, next_event, next_reader, reader_behind, reader_if, tells_event, turned}
+use Rattle.kms_audit.specs.Eventing.{EventFields, IsReadTo, ReplyFields, block_of, event_at, next_event, next_reader, reader_behind}
+use Rattle.kms_audit.specs.Eventing.{reader_if, tells_event, turned}
 use Rattle.kms_audit.specs.Ordered.{AreBlocks, AreLinesOf, block_at, no_block}
 use Rattle.kms_model.specs.declared.replies.Answered.{Answered}
 use Rattle.kms_model.specs.declared.replies.Event.{Event}

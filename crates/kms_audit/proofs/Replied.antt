@@ -17,7 +17,8 @@ use Rattle.kms_model.specs.declared.worlds.World.{World}
 use Rattle.kms_model.specs.Device.Execution.{execute}
 use Rattle.kms_model.specs.Device.Serial.{Entry, command_of, is_accepted}
 use Rattle.kms_model.specs.Headline.{entry_answered}
-use Rattle.kms_model.specs.Report.RightAnswers.{entries_in, is_devices_reply, is_refused_late_at, is_to_entry, is_told, may_be_refused_late, reply_is_right, reply_is_right_to, same_reply, world_at}
+use Rattle.kms_model.specs.Report.RightAnswers.{entries_in, is_devices_reply, is_refused_late_at, is_to_entry, is_told, may_be_refused_late}
+use Rattle.kms_model.specs.Report.RightAnswers.{reply_is_right, reply_is_right_to, same_reply, world_at}
 use Rattle.kms_model.specs.Request.Flags.{is_test}
 use Rattle.kms_model.specs.Request.Verdict.{verdict}
 use Rattle.kms_serial.specs.Device.{Device}

@@ -6,7 +6,8 @@ use Rattle.kms_audit.specs.Told.{IsSpelt}
 use Rattle.kms_model.specs.declared.reports.Report.{Report}
 use Rattle.kms_model.specs.declared.reports.ReportLine.{ReportLine}
 use Rattle.kms_model.specs.declared.reports.ReportLine.TheVariants as says
-use Rattle.kms_model.specs.Report.ReportLines.{answer_said, entry_said, event_said, freed_said, grouped, grouped_where_read, latch_said, least_behind, or_line, report_lines_read, report_read, report_row_read, with_line}
+use Rattle.kms_model.specs.Report.ReportLines.{answer_said, entry_said, event_said, freed_said, grouped, grouped_where_read, latch_said}
+use Rattle.kms_model.specs.Report.ReportLines.{least_behind, or_line, report_lines_read, report_read, report_row_read, with_line}
 use Rattle.kms_model.specs.Script.InputLines.{Row, before_rows, rows_of}
 
 -- Rows

@@ -1,5 +1,6 @@
 -- How far what a CRTC shows agrees with its L lines: the first line that is not met, and whether all is told.
-use Rattle.std.proofs.Common.{◌≡◌, ℕ, zero, suc, ◌+◌, ◌<◌, ◌≤◌, Bool, true, false, List, [], ◌∷◌, ◌++◌, length, drop, Option, Some, None, refl, sym, ap, ◌∙◌, arith}
+use Rattle.std.proofs.Common.{◌≡◌, ℕ, zero, suc, ◌+◌, ◌<◌, ◌≤◌, Bool, true, false, List, [], ◌∷◌, ◌++◌, length, drop, Option, Some, None}
+use Rattle.std.proofs.Common.{refl, sym, ap, ◌∙◌, arith}
 use Rattle.std.proofs.lemmas.Bool.{and_right, cond-false, cond-true, eqb-false, eqb-true, le-ltb, lt-ltb, ne_eqb, not_from_false, or_left}
 use Rattle.std.proofs.lemmas.Bool.Decides.{nat_tests}
 use Rattle.std.proofs.lemmas.List.FromFn.{map-range_with_len_more}
@@ -11,7 +12,8 @@ use Rattle.kms_audit.proofs.Apart.{and_true}
 use Rattle.kms_audit.proofs.Firsts.{earliest-assoc, earliest-none, off-both, off-fail, off-pass, off-rest, off-same}
 use Rattle.kms_told.proofs.Items.{position-cons}
 use Rattle.kms_audit.specs.declared.latches.Track.{Track}
-use Rattle.kms_audit.specs.Latching.{LatchFields, first_of_all, first_unmet, line_from, line_tells, no_track, track_of, track_on, track_with, unmet}
+use Rattle.kms_audit.specs.Latching.{LatchFields, first_of_all, first_unmet, line_from, line_tells, no_track, track_of, track_on}
+use Rattle.kms_audit.specs.Latching.{track_with, unmet}
 use Rattle.kms_audit.specs.Sections.{earliest, is_pictured, tells_picture}
 use Rattle.kms_model.specs.declared.objects.Kind.TheVariants.{Crtc}
 use Rattle.kms_model.specs.declared.reports.Report.{Report}

@@ -1,5 +1,6 @@
 -- E lines: the events that R lines tell a client, and how many L lines are left for each.
-use Rattle.std.specs.Prelude.{◌≡◌, ◌≤◌, ◌<◌, ℕ, ◌+◌, ◌-◌, ◌%◌, ◌^◌, Bool, ◌&&◌, ◌==◌, nat_lt, List, [], All, length, take, drop, Option, Some, None, is_some, slice_get, slice_index_or, if◌then◌else◌}
+use Rattle.std.specs.Prelude.{◌≡◌, ◌≤◌, ◌<◌, ℕ, ◌+◌, ◌-◌, ◌%◌, ◌^◌, Bool, ◌&&◌, ◌==◌, nat_lt, List, [], All, length, take, drop, Option}
+use Rattle.std.specs.Prelude.{Some, None, is_some, slice_get, slice_index_or, if◌then◌else◌}
 use Rattle.std.specs.List.{count_by, filter_map, last_or, position}
 use Rattle.std.specs.Option.{option_map_or}
 use Rattle.std.specs.BTreeMap as tree

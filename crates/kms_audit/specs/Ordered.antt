@@ -1,5 +1,6 @@
 -- How far R lines stand in their order, and the blocks of each client's lines.
-use Rattle.std.specs.Prelude.{◌≡◌, ◌≤◌, ◌<◌, ℕ, ◌+◌, ◌-◌, ◌==◌, List, [], length, take, Some, None, slice_get, slice_index_or, slice_set, if◌then◌else◌, ◌⊎◌}
+use Rattle.std.specs.Prelude.{◌≡◌, ◌≤◌, ◌<◌, ℕ, ◌+◌, ◌-◌, ◌==◌, List, [], length, take, Some, None, slice_get, slice_index_or, slice_set}
+use Rattle.std.specs.Prelude.{if◌then◌else◌, ◌⊎◌}
 use Rattle.std.specs.Option.{option_map_or}
 use Rattle.kms_audit.specs.declared.order.Block.{Block}
 use Rattle.kms_audit.specs.declared.order.Ordered.{Ordered}

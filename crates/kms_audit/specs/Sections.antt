@@ -1,6 +1,7 @@
 -- The tests of R and L lines taken apart: what the lines alone tell, and what the device of one thread tells. And the first
 -- wrong line, section by section.
-use Rattle.std.specs.Prelude.{◌≡◌, ℕ, ◌+◌, Bool, true, false, not, ◌&&◌, ◌||◌, ◌==◌, nat_lt, nat_le, List, [], length, is_some, Option, Some, None, slice_get, if◌then◌else◌}
+use Rattle.std.specs.Prelude.{◌≡◌, ℕ, ◌+◌, Bool, true, false, not, ◌&&◌, ◌||◌, ◌==◌, nat_lt, nat_le, List, [], length, is_some, Option}
+use Rattle.std.specs.Prelude.{Some, None, slice_get, if◌then◌else◌}
 use Rattle.std.specs.List.{last_or}
 use Rattle.std.specs.Option.{option_map_or}
 use Rattle.kms_model.specs.declared.objects.Kind.TheVariants.{Crtc}
@@ -12,8 +13,10 @@ use Rattle.kms_model.specs.Device.Objects.{exists, object_id}
 use Rattle.kms_model.specs.Device.Serial.{Pictured, command_of, show}
 use Rattle.kms_model.specs.Firsts.{number_if, or_else}
 use Rattle.kms_model.specs.Headline.{entry_answered}
-use Rattle.kms_model.specs.Report.Right.{LatchLine, end_is_right, event_is_right, events_are_whole, freed_is_right, is_not_below, last_count, latch_is_right, latches_in, lines_of_crtc, number_at, same_digest}
-use Rattle.kms_model.specs.Report.RightAnswers.{answer_is_right, answers_are_whole, answers_in, client_is_whole, entries_in, entry_is_right, first_off, has_place, is_in_turn, no_client_is_silent, reply_is_right}
+use Rattle.kms_model.specs.Report.Right.{LatchLine, end_is_right, event_is_right, events_are_whole, freed_is_right, is_not_below}
+use Rattle.kms_model.specs.Report.Right.{last_count, latch_is_right, latches_in, lines_of_crtc, number_at, same_digest}
+use Rattle.kms_model.specs.Report.RightAnswers.{answer_is_right, answers_are_whole, answers_in, client_is_whole, entries_in, entry_is_right}
+use Rattle.kms_model.specs.Report.RightAnswers.{first_off, has_place, is_in_turn, no_client_is_silent, reply_is_right}
 use Rattle.kms_model.specs.Report.SeenReport.{digest_shown}
 
 -- the lower of two places, where there are any

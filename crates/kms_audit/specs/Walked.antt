@@ -1,5 +1,6 @@
 -- The walk over a journal: what is kept of the entries so far.
-use Rattle.std.specs.Prelude.{◌≡◌, ◌≤◌, ℕ, ◌+◌, ◌-◌, ◌*◌, Bool, true, nat_lt, List, [], ◌∷◌, ◌++◌, length, take, filter, ◌==◌, Option, Some, None, slice_get, slice_index_or}
+use Rattle.std.specs.Prelude.{◌≡◌, ◌≤◌, ℕ, ◌+◌, ◌-◌, ◌*◌, Bool, true, nat_lt, List, [], ◌∷◌, ◌++◌, length, take, filter, ◌==◌, Option, Some}
+use Rattle.std.specs.Prelude.{None, slice_get, slice_index_or}
 use Rattle.std.specs.List.{last_or}
 use Rattle.std.specs.Option.{option_map_or}
 use Rattle.kms_audit.specs.declared.walk.Walk.{Walk}

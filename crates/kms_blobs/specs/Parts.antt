@@ -7,7 +7,8 @@ use Rattle.kms_model.specs.declared.objects.Mode.{Mode}
 abbrev pub front_bytes : Mode → List ℕ
 front_bytes m =
     to_le_bytes w32 m.clock
-    ++ (to_le_bytes w16 m.hdisplay ++ (to_le_bytes w16 m.hsync_start ++ (to_le_bytes w16 m.hsync_end ++ (to_le_bytes w16 m.htotal ++ to_le_bytes w16 m.hskew))))
+    ++ (to_le_bytes w16 m.hdisplay ++ (to_le_bytes w16 m.hsync_start
+    ++ (to_le_bytes w16 m.hsync_end ++ (to_le_bytes w16 m.htotal ++ to_le_bytes w16 m.hskew))))
 
 -- the rows
 abbrev pub middle_bytes : Mode → List ℕ

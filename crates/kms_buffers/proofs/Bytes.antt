@@ -10,9 +10,11 @@ area_of s = area_bytes s.value.width s.value.height s.value.format
 
 bytes_of-push : (buffers : List (Slot Buffer)) (s : Slot Buffer) → bytes_of (buffers ++ s ∷ []) ≡ bytes_of buffers + area_of s
 bytes_of-push [] s = omega arith
-bytes_of-push (b ∷ buffers) s = ap (λ (n : ℕ). area_of b + n) (bytes_of-push buffers s) ∙ sym (add_assoc (area_of b) (bytes_of buffers) (area_of s))
+bytes_of-push (b ∷ buffers) s = ap (λ (n : ℕ). area_of b + n) (bytes_of-push buffers s) ∙ sym
+    (add_assoc (area_of b) (bytes_of buffers) (area_of s))
 
-pub counted-push : (total : ℕ) (buffers : List (Slot Buffer)) (s : Slot Buffer) → total ≡ bytes_of buffers + area_of s → total ≤ largest_bytes → IsCounted total (buffers ++ s ∷ [])
+pub counted-push : (total : ℕ) (buffers : List (Slot Buffer)) (s : Slot Buffer) → total ≡ bytes_of buffers + area_of s → total
+    ≤ largest_bytes → IsCounted total (buffers ++ s ∷ [])
 counted-push total buffers s is fits = record {
   counted = is ∙ sym (bytes_of-push buffers s);
   within = fits;

@@ -37,12 +37,14 @@ open_part (Some fb) = if fb.is_open then Some (added fb) else None
 
 -- In a store
 
-slot_here : (b : Bool) (id : ℕ) (s : Slot Framebuffer) (rest : List (Slot Framebuffer)) → s.value.is_open ≡ b → eqb s.id id ≡ true → value_with_id rest id ≡ None
+slot_here : (b : Bool) (id : ℕ) (s : Slot Framebuffer) (rest : List (Slot Framebuffer)) → s.value.is_open ≡ b → eqb s.id id ≡ true
+    → value_with_id rest id ≡ None
     → value_with_id (cons_option (open_slot s) rest) id ≡ (if b then Some (added s.value) else None)
 slot_here true id s rest opened same none = rw (opened, same) refl
 slot_here false id s rest opened same none = rw opened none
 
-slot_apart : (b : Bool) (id : ℕ) (s : Slot Framebuffer) (rest : List (Slot Framebuffer)) → s.value.is_open ≡ b → eqb s.id id ≡ false → value_with_id (cons_option (open_slot s) rest) id ≡ value_with_id rest id
+slot_apart : (b : Bool) (id : ℕ) (s : Slot Framebuffer) (rest : List (Slot Framebuffer)) → s.value.is_open ≡ b → eqb s.id id ≡ false
+    → value_with_id (cons_option (open_slot s) rest) id ≡ value_with_id rest id
 slot_apart true id s rest opened other = rw (opened, other) refl
 slot_apart false id s rest opened other = rw opened refl
 
@@ -61,7 +63,8 @@ open_found (s ∷ fbs) id rising =
       | inr away ↦ rw away.0 (slot_apart s.value.is_open id s (open_fbs fbs) refl away.0 ∙ open_found fbs id rising.1)
     ]
 
-answer_if : (owner : ℕ) (fb : Framebuffer) (b o : Bool) → fb.is_open ≡ b → (fb.owner == owner) ≡ o → denial (close_answer owner (Some fb)) ≡ wrong_with owner (open_part (Some fb))
+answer_if : (owner : ℕ) (fb : Framebuffer) (b o : Bool) → fb.is_open ≡ b → (fb.owner == owner) ≡ o → denial (close_answer owner (Some fb))
+    ≡ wrong_with owner (open_part (Some fb))
 answer_if owner fb true true opened mine = rw (opened, mine) refl
 answer_if owner fb true false opened mine = rw (opened, mine) refl
 answer_if owner fb false o opened mine = rw opened refl
@@ -76,7 +79,8 @@ refused_fb : (b : Bool) → denied_if NOT_FOUND (not b) ≡ (if b then None else
 refused_fb true = refl
 refused_fb false = refl
 
-refused_if_open : (owner : ℕ) (t : Thing) (b : Bool) (c : Content) → t.is_open ≡ b → t.content ≡ c → close_refusal owner (Some t) ≡ wrong_with owner (value_if_open fb_of_content t)
+refused_if_open : (owner : ℕ) (t : Thing) (b : Bool) (c : Content) → t.is_open ≡ b → t.content ≡ c → close_refusal owner (Some t)
+    ≡ wrong_with owner (value_if_open fb_of_content t)
 refused_if_open owner t true (content.Framebuffer info of) opened is = rw (opened, is) (refused_fb (t.owner == owner))
 refused_if_open owner t false (content.Framebuffer info of) opened is = rw (opened, is) refl
 refused_if_open owner t true (content.Buffer width height format pattern) opened is = rw (opened, is) refl
@@ -95,9 +99,11 @@ refusal_is owner None = refl
 refusal_is owner (Some t) = refused_if_open owner t t.is_open t.content refl refl
 
 -- a store that has the open framebuffers of things refuses as a device with these things does
-pub closes_alike : (fbs : List (Slot Framebuffer)) (owner id : ℕ) (things : List Thing) → IsRising fbs → AreNumbered 1000 things → open_fbs_of things ≡ open_fbs fbs
+pub closes_alike : (fbs : List (Slot Framebuffer)) (owner id : ℕ) (things : List Thing) → IsRising fbs → AreNumbered 1000 things
+    → open_fbs_of things ≡ open_fbs fbs
     → denial (close_answer owner (value_with_id fbs id)) ≡ close_refusal owner (thing_with_id things id)
 closes_alike fbs owner id things rising numbered same =
     answer_is owner (value_with_id fbs id)
-    ∙ ap (wrong_with owner) (sym (open_found fbs id rising) ∙ ap (λ xs. value_with_id xs id) (sym same) ∙ found_open fb_of_content 1000 id things numbered)
+    ∙ ap (wrong_with owner) (sym (open_found fbs id rising) ∙ ap (λ xs. value_with_id xs id) (sym same) ∙ found_open fb_of_content 1000 id
+    things numbered)
     ∙ sym (refusal_is owner (thing_with_id things id))

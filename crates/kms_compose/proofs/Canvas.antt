@@ -1,5 +1,6 @@
 -- Frames as functions of the place: a part of a row drawn anew.
-use Rattle.std.proofs.Common.{◌≡◌, ◌<◌, ◌≤◌, ℕ, zero, suc, ◌+◌, ◌-◌, ◌*◌, Bool, true, false, ◌&&◌, ◌==◌, cond, List, ◌++◌, length, take, drop, refl, sym, ap, subst, ◌∙◌, ◌⊎◌, inl, inr, append_assoc, arith}
+use Rattle.std.proofs.Common.{◌≡◌, ◌<◌, ◌≤◌, ℕ, zero, suc, ◌+◌, ◌-◌, ◌*◌, Bool, true, false, ◌&&◌, ◌==◌, cond, List, ◌++◌, length, take}
+use Rattle.std.proofs.Common.{drop, refl, sym, ap, subst, ◌∙◌, ◌⊎◌, inl, inr, append_assoc, arith}
 use Rattle.std.specs.List.{flat_map, range_with_len}
 use Rattle.std.proofs.lemmas.Bool.Decides.{nat_tests}
 use Rattle.std.proofs.lemmas.List.{drop_at, length-append, length-take-le, take_at}
@@ -12,22 +13,27 @@ use Rattle.kms_compose.specs.Parts.{is_within}
 -- Lists made of a range
 
 -- only the numbers of a range count
-pub range_same : (f g : ℕ → List ℕ) (a n : ℕ) → ((k : ℕ) → a ≤ k → k < a + n → f k ≡ g k) → flat_map f (range_with_len a n) ≡ flat_map g (range_with_len a n)
+pub range_same : (f g : ℕ → List ℕ) (a n : ℕ) → ((k : ℕ) → a ≤ k → k < a + n → f k ≡ g k) → flat_map f (range_with_len a n)
+    ≡ flat_map g (range_with_len a n)
 range_same f g a zero h = refl
 range_same f g a (suc n) h =
     ap (λ (xs : List ℕ). xs ++ flat_map f (range_with_len (a + 1) n)) (h a (omega arith) (omega arith))
     ∙ ap (λ (xs : List ℕ). g a ++ xs) (range_same f g (a + 1) n (λ k low below. h k (omega (arith, low)) (omega (arith, below))))
 
 -- where a range begins does not count
-pub range_moved : (f g : ℕ → List ℕ) (a b n : ℕ) → ((k i j : ℕ) → i ≡ a + k → j ≡ b + k → k < n → f i ≡ g j) → flat_map f (range_with_len a n) ≡ flat_map g (range_with_len b n)
+pub range_moved : (f g : ℕ → List ℕ) (a b n : ℕ) → ((k i j : ℕ) → i ≡ a + k → j ≡ b + k → k < n → f i ≡ g j)
+    → flat_map f (range_with_len a n) ≡ flat_map g (range_with_len b n)
 range_moved f g a b zero h = refl
 range_moved f g a b (suc n) h =
     ap (λ (xs : List ℕ). xs ++ flat_map f (range_with_len (a + 1) n)) (h 0 a b (omega arith) (omega arith) (omega arith))
-    ∙ ap (λ (xs : List ℕ). g b ++ xs) (range_moved f g (a + 1) (b + 1) n (λ k i j e e' below. h (k + 1) i j (omega (arith, e)) (omega (arith, e')) (omega (arith, below))))
+    ∙ ap (λ (xs : List ℕ). g b ++ xs) (range_moved f g (a + 1) (b + 1) n
+    (λ k i j e e' below. h (k + 1) i j (omega (arith, e)) (omega (arith, e')) (omega (arith, below))))
 
 -- a range in two parts
-pub range_split : (f : ℕ → List ℕ) (a m n j : ℕ) → a + m ≡ j → flat_map f (range_with_len a (m + n)) ≡ flat_map f (range_with_len a m) ++ flat_map f (range_with_len j n)
-range_split f a zero n j e = ap (λ (k : ℕ). flat_map f (range_with_len k (zero + n))) (omega (arith, e)) ∙ ap (λ (k : ℕ). flat_map f (range_with_len j k)) (omega arith)
+pub range_split : (f : ℕ → List ℕ) (a m n j : ℕ) → a + m ≡ j → flat_map f (range_with_len a (m + n)) ≡ flat_map f (range_with_len a m)
+    ++ flat_map f (range_with_len j n)
+range_split f a zero n j e = ap (λ (k : ℕ). flat_map f (range_with_len k (zero + n))) (omega (arith, e)) ∙ ap
+    (λ (k : ℕ). flat_map f (range_with_len j k)) (omega arith)
 range_split f a (suc m) n j e =
     let more : suc m + n ≡ suc (m + n) = omega arith in
     ap (λ (k : ℕ). flat_map f (range_with_len a k)) more
@@ -45,17 +51,20 @@ range_length f size a (suc n) h =
 
 -- A part of a list put in the place of another
 
-pub put_between : (before middle behind new : List ℕ) (at n : ℕ) → length before ≡ at → length middle ≡ n → put_mid at n (before ++ (middle ++ behind)) new ≡ before ++ (new ++ behind)
+pub put_between : (before middle behind new : List ℕ) (at n : ℕ) → length before ≡ at → length middle ≡ n
+    → put_mid at n (before ++ (middle ++ behind)) new ≡ before ++ (new ++ behind)
 put_between before middle behind new at n first count =
     let front = take_at before (middle ++ behind) at first in
     let back = drop_at before (middle ++ behind) at first in
     rw (front, back, drop_at middle behind n count) refl
 
-joined : (a a' b b' m m' l l' d d' : List ℕ) → a ≡ a' → b ≡ b' → m ≡ m' → l ≡ l' → d ≡ d' → (a ++ b) ++ (m ++ (l ++ d)) ≡ (a' ++ b') ++ (m' ++ (l' ++ d'))
+joined : (a a' b b' m m' l l' d d' : List ℕ) → a ≡ a' → b ≡ b' → m ≡ m' → l ≡ l' → d ≡ d' → (a ++ b) ++ (m ++ (l ++ d)) ≡ (a' ++ b')
+    ++ (m' ++ (l' ++ d'))
 joined a a' b b' m m' l l' d d' e f g h i = rw (e, f, g, h, i) refl
 
 -- what stands before the end of such a part
-pub take-put_mid : (old run : List ℕ) (at n end : ℕ) → length run ≡ n → at + n ≤ length old → end ≡ at + n → take end (put_mid at n old run) ≡ take at old ++ run
+pub take-put_mid : (old run : List ℕ) (at n end : ℕ) → length run ≡ n → at + n ≤ length old → end ≡ at + n → take end (put_mid at n old run)
+    ≡ take at old ++ run
 take-put_mid old run at n end count fits is =
     let all = append_assoc (take at old) run (drop n (drop at old)) in
     let front = length-take-le at old (omega (arith, fits)) in
@@ -74,20 +83,24 @@ pub canvas-length : (width height : ℕ) (colour : ℕ → ℕ → Colour) → l
 canvas-length width height colour = range_length (row_of width colour) (width * 3) 0 height (row-length width colour)
 
 -- only the pixels of the mode count
-pub canvas-same : (width height : ℕ) (c d : ℕ → ℕ → Colour) → ((x y : ℕ) → x < width → y < height → c x y ≡ d x y) → canvas width height c ≡ canvas width height d
+pub canvas-same : (width height : ℕ) (c d : ℕ → ℕ → Colour) → ((x y : ℕ) → x < width → y < height → c x y ≡ d x y) → canvas width height c
+    ≡ canvas width height d
 canvas-same width height c d h =
     range_same (row_of width c) (row_of width d) 0 height (λ y _ low.
-    range_same (λ x. channels (c x y)) (λ x. channels (d x y)) 0 width (λ x _ left. ap channels (h x y (omega (arith, left)) (omega (arith, low)))))
+    range_same (λ x. channels (c x y)) (λ x. channels (d x y)) 0 width
+    (λ x _ left. ap channels (h x y (omega (arith, left)) (omega (arith, low)))))
 
 -- the first rows of a frame
-canvas-rows : (width rows rest count : ℕ) (c : ℕ → ℕ → Colour) → count ≡ 3 * width * rows → take count (canvas width (rows + rest) c) ≡ canvas width rows c
+canvas-rows : (width rows rest count : ℕ) (c : ℕ → ℕ → Colour) → count ≡ 3 * width * rows → take count (canvas width (rows + rest) c)
+    ≡ canvas width rows c
 canvas-rows width rows rest count c size =
     let long : rows * (width * 3) ≡ count = omega (arith, size) in
     ap (take count) (range_split (row_of width c) 0 rows rest rows (omega arith))
     ∙ take_at (canvas width rows c) (flat_map (row_of width c) (range_with_len rows rest)) count (canvas-length width rows c ∙ long)
 
 -- are the same where their pixels are
-pub canvas-front : (width height rows count : ℕ) (c d : ℕ → ℕ → Colour) → rows ≤ height → count ≡ 3 * width * rows → ((x y : ℕ) → y < rows → c x y ≡ d x y) →
+pub canvas-front : (width height rows count : ℕ) (c d : ℕ → ℕ → Colour) → rows ≤ height → count ≡ 3 * width * rows
+    → ((x y : ℕ) → y < rows → c x y ≡ d x y) →
     take count (canvas width height c) ≡ take count (canvas width height d)
 canvas-front width height rows count c d low size same =
     let whole : rows + (height - rows) ≡ height = omega (arith, low) in
@@ -161,7 +174,8 @@ module _ (new old : ℕ → ℕ → Colour) (left count row : ℕ) where
         ∙ ap (λ (xs : List ℕ). first c ++ xs) (range_split (pixels c) left count more (left + count) refl)
 
     first_same : first now ≡ first old
-    first_same = range_same (pixels now) (pixels old) 0 left (λ x _ below. ap channels (off_run x (before_run left count x (omega (arith, below)))))
+    first_same = range_same (pixels now) (pixels old) 0 left
+        (λ x _ below. ap channels (off_run x (before_run left count x (omega (arith, below)))))
 
     middle_new : middle now ≡ run
     middle_new = range_same (pixels now) (pixels new) left count (λ x low below. ap channels (on_run x (inside_run left count x low below)))
@@ -183,7 +197,8 @@ module _ (new old : ℕ → ℕ → Colour) (left count row : ℕ) where
     above_same = range_same (row_of wide now) (row_of wide old) 0 row (λ y _ low. same_row y (beside y row (inl (omega (arith, low)))))
 
     below_same : below now ≡ below old
-    below_same = range_same (row_of wide now) (row_of wide old) (row + 1) rest (λ y low _. same_row y (beside y row (inr (omega (arith, low)))))
+    below_same = range_same (row_of wide now) (row_of wide old) (row + 1) rest
+        (λ y low _. same_row y (beside y row (inr (omega (arith, low)))))
 
     canvas_parts : (c : ℕ → ℕ → Colour) → canvas wide (row + suc rest) c ≡ (above c ++ first c) ++ (middle c ++ (last c ++ below c))
     canvas_parts c =
@@ -210,6 +225,7 @@ module _ (new old : ℕ → ℕ → Colour) (left count row : ℕ) where
       let wide : left + (count + (width - (left + count))) ≡ width = omega (arith, fits) in
       let high : row + suc (height - (row + 1)) ≡ height = omega (arith, low) in
       subst (λ (w : ℕ). at ≡ row * (w * 3) + left * 3 → put_mid at n (canvas w height old) run ≡ canvas w height now) wide
-      (λ there. subst (λ (h : ℕ). put_mid at n (canvas (left + (count + (width - (left + count)))) h old) run ≡ canvas (left + (count + (width - (left + count)))) h now) high
+      (λ there. subst (λ (h : ℕ). put_mid at n (canvas (left + (count + (width - (left + count)))) h old) run
+      ≡ canvas (left + (count + (width - (left + count)))) h now) high
       (drawn_parts (width - (left + count)) (height - (row + 1)) at n there size))
       start

@@ -1,5 +1,6 @@
 -- Two lists of layers, put beside one another from the lowest: what is left of both, and those that are in one alone.
-use Rattle.std.proofs.Common.{◌≡◌, ◌<◌, ℕ, zero, suc, ◌+◌, ◌-◌, Bool, true, false, ◌||◌, List, [], ◌∷◌, ◌++◌, take, drop, length, slice_index_or, Option, refl, sym, ap, ◌∙◌, arith}
+use Rattle.std.proofs.Common.{◌≡◌, ◌<◌, ℕ, zero, suc, ◌+◌, ◌-◌, Bool, true, false, ◌||◌, List, [], ◌∷◌, ◌++◌, take, drop, length}
+use Rattle.std.proofs.Common.{slice_index_or, Option, refl, sym, ap, ◌∙◌, arith}
 use Rattle.std.specs.Prelude.{All}
 use Rattle.std.proofs.lemmas.Bool.{or_parts}
 use Rattle.std.proofs.lemmas.List.{at_drop_more, length-drop, take_all, take_more}
@@ -22,10 +23,12 @@ covered_by-append (l ∷ ls) more x y =
     ∙ or_grouped (is_covered l.visible x y) (covered_by ls x y) (covered_by more x y)
 
 -- where a layer of a list covers a pixel, the list does
-pub covered_at : (ls : List Layer) (i : ℕ) (d : Layer) (x y : ℕ) → i < length ls → is_covered (slice_index_or ls i d).visible x y ≡ true → covered_by ls x y ≡ true
+pub covered_at : (ls : List Layer) (i : ℕ) (d : Layer) (x y : ℕ) → i < length ls → is_covered (slice_index_or ls i d).visible x y ≡ true
+    → covered_by ls x y ≡ true
 covered_at [] i d x y below on = absurd (omega (arith, below))
 covered_at (l ∷ ls) zero d x y below on = rw on refl
-covered_at (l ∷ ls) (suc i) d x y below on = behind (is_covered l.visible x y) (covered_by ls x y) (covered_at ls i d x y (omega (arith, below)) on)
+covered_at (l ∷ ls) (suc i) d x y below on = behind (is_covered l.visible x y) (covered_by ls x y)
+    (covered_at ls i d x y (omega (arith, below)) on)
   where
     behind : (a b : Bool) → b ≡ true → (a || b) ≡ true
     behind true b e = refl
@@ -44,7 +47,8 @@ listed_last old l = record {
 }
 
 -- a layer that covers nothing which those that are listed do not
-pub listed_already : (old : List Layer) (l : Layer) → ((x y : ℕ) → is_covered l.visible x y ≡ true → covered_by old x y ≡ true) → Lists old (l ∷ []) old
+pub listed_already : (old : List Layer) (l : Layer) → ((x y : ℕ) → is_covered l.visible x y ≡ true → covered_by old x y ≡ true)
+    → Lists old (l ∷ []) old
 listed_already old l there = record {
   covers = λ x y. both (is_covered l.visible x y) (covered_by old x y) (there x y);
   fit = λ m olds one. olds;
@@ -64,7 +68,8 @@ lists_none old = record { covers = λ x y. unchanged (covered_by old x y); fit =
     unchanged false = refl
 
 -- one layer more
-pub lists_more : (old ls between new : List Layer) (i : ℕ) (d : Layer) → i < length ls → Lists old (take i ls) between → Lists between (slice_index_or ls i d ∷ []) new → Lists old (take (i + 1) ls) new
+pub lists_more : (old ls between new : List Layer) (i : ℕ) (d : Layer) → i < length ls → Lists old (take i ls) between
+    → Lists between (slice_index_or ls i d ∷ []) new → Lists old (take (i + 1) ls) new
 lists_more old ls between new i d below before one = rw (take_more ls i d below) record {
   covers = λ x y.
       one.covers x y
@@ -76,7 +81,8 @@ lists_more old ls between new i d below before one = rw (take_more ls i d below)
       one.fit m (before.fit m olds parts.0) parts.1;
 }
   where
-    front_and_last : (m : Mode) (front : List Layer) (l : Layer) → All (FitsMode m) (front ++ l ∷ []) → All (FitsMode m) front × All (FitsMode m) (l ∷ [])
+    front_and_last : (m : Mode) (front : List Layer) (l : Layer) → All (FitsMode m) (front ++ l ∷ []) → All (FitsMode m) front
+        × All (FitsMode m) (l ∷ [])
     front_and_last m [] l all = ((λ k d below. absurd (omega (arith, below))), all)
     front_and_last m (f ∷ front) l all =
         let rest = front_and_last m front l (λ k d below. all (suc k) d (omega (arith, below))) in
@@ -87,15 +93,18 @@ lists_more old ls between new i d below before one = rw (take_more ls i d below)
         cons m f front first rest (suc k) d below = rest k d (omega (arith, below))
 
 -- where the layers that are listed cover nothing, neither did the others
-off_parts : (old more new : List Layer) (x y : ℕ) → Lists old more new → covered_by new x y ≡ false → (covered_by old x y ≡ false) × (covered_by more x y ≡ false)
+off_parts : (old more new : List Layer) (x y : ℕ) → Lists old more new → covered_by new x y ≡ false → (covered_by old x y ≡ false)
+    × (covered_by more x y ≡ false)
 off_parts old more new x y lists off = or_parts (covered_by old x y) (covered_by more x y) (sym (lists.covers x y) ∙ off)
 
 -- a layer changes nothing where it covers nothing
-uncovered : (words : ℕ → ℕ → ℕ → Option ℕ) (x y : ℕ) (under : Colour) (l : Layer) → is_covered l.visible x y ≡ false → mixed l under (layer_colour words x y l) ≡ under
+uncovered : (words : ℕ → ℕ → ℕ → Option ℕ) (x y : ℕ) (under : Colour) (l : Layer) → is_covered l.visible x y ≡ false
+    → mixed l under (layer_colour words x y l) ≡ under
 uncovered words x y under l off = rw off refl
 
 -- nor do all layers where none does
-none_of : (words : ℕ → ℕ → ℕ → Option ℕ) (x y : ℕ) (under : Colour) (ls : List Layer) → covered_by ls x y ≡ false → composed words x y under ls ≡ under
+none_of : (words : ℕ → ℕ → ℕ → Option ℕ) (x y : ℕ) (under : Colour) (ls : List Layer) → covered_by ls x y ≡ false
+    → composed words x y under ls ≡ under
 none_of words x y under [] off = refl
 none_of words x y under (l ∷ ls) off =
     let parts = or_parts (is_covered l.visible x y) (covered_by ls x y) off in
@@ -110,21 +119,25 @@ pub record IsApart (old new changed : List Layer) (left came : ℕ) : Type 0 whe
 
 -- the first layer of a rest
 first_of : (words : ℕ → ℕ → ℕ → Option ℕ) (x y : ℕ) (u : Colour) (ls : List Layer) (i : ℕ) (d : Layer) → i < length ls →
-    composed words x y u (drop i ls) ≡ composed words x y (mixed (slice_index_or ls i d) u (layer_colour words x y (slice_index_or ls i d))) (drop (i + 1) ls)
+    composed words x y u (drop i ls) ≡ composed words x y (mixed (slice_index_or ls i d) u (layer_colour words x y (slice_index_or ls i d)))
+    (drop (i + 1) ls)
 first_of words x y u ls i d below = at_drop_more (composed words x y u) ls i d below
 
 -- which covers nothing
-skipped : (words : ℕ → ℕ → ℕ → Option ℕ) (x y : ℕ) (u : Colour) (ls : List Layer) (i : ℕ) (d : Layer) → i < length ls → is_covered (slice_index_or ls i d).visible x y ≡ false →
+skipped : (words : ℕ → ℕ → ℕ → Option ℕ) (x y : ℕ) (u : Colour) (ls : List Layer) (i : ℕ) (d : Layer) → i < length ls
+    → is_covered (slice_index_or ls i d).visible x y ≡ false →
     composed words x y u (drop i ls) ≡ composed words x y u (drop (i + 1) ls)
 skipped words x y u ls i d below off =
-    first_of words x y u ls i d below ∙ ap (λ (c : Colour). composed words x y c (drop (i + 1) ls)) (uncovered words x y u (slice_index_or ls i d) off)
+    first_of words x y u ls i d below ∙ ap (λ (c : Colour). composed words x y c (drop (i + 1) ls))
+    (uncovered words x y u (slice_index_or ls i d) off)
 
 rest_whole : (ls : List Layer) (n : ℕ) → take (length ls - n) (drop n ls) ≡ drop n ls
 rest_whole ls n = take_all (length ls - n) (drop n ls) (omega (arith, length-drop n ls))
 
 module _ (old new changed : List Layer) (left came : ℕ) (a : IsApart old new changed left came) where
   -- both rests begin with one layer
-  pub same_more : (d : Layer) → left < length old → came < length new → slice_index_or old left d ≡ slice_index_or new came d → IsApart old new changed (left + 1) (came + 1)
+  pub same_more : (d : Layer) → left < length old → came < length new → slice_index_or old left d ≡ slice_index_or new came d
+      → IsApart old new changed (left + 1) (came + 1)
   same_more d low below same = record {
     agree = λ words x y under off rest. a.agree words x y under off (λ u.
         first_of words x y u old left d low
@@ -135,7 +148,8 @@ module _ (old new changed : List Layer) (left came : ℕ) (a : IsApart old new c
   }
 
   -- the first layer of the new rest came
-  pub came_more : (all : List Layer) (d : Layer) → came < length new → Lists changed (slice_index_or new came d ∷ []) all → IsApart old new all left (came + 1)
+  pub came_more : (all : List Layer) (d : Layer) → came < length new → Lists changed (slice_index_or new came d ∷ []) all
+      → IsApart old new all left (came + 1)
   came_more all d below lists = record {
     agree = λ words x y under off rest.
         let parts = off_parts changed (slice_index_or new came d ∷ []) all x y lists off in
@@ -145,7 +159,8 @@ module _ (old new changed : List Layer) (left came : ℕ) (a : IsApart old new c
   }
 
   -- the first layer of the old rest left
-  pub left_more : (all : List Layer) (d : Layer) → left < length old → Lists changed (slice_index_or old left d ∷ []) all → IsApart old new all (left + 1) came
+  pub left_more : (all : List Layer) (d : Layer) → left < length old → Lists changed (slice_index_or old left d ∷ []) all
+      → IsApart old new all (left + 1) came
   left_more all d low lists = record {
     agree = λ words x y under off rest.
         let parts = off_parts changed (slice_index_or old left d ∷ []) all x y lists off in
@@ -155,7 +170,8 @@ module _ (old new changed : List Layer) (left came : ℕ) (a : IsApart old new c
   }
 
   -- both rests left or came
-  pub rests_listed : (between all : List Layer) → Lists changed (take (length old - left) (drop left old)) between → Lists between (take (length new - came) (drop came new)) all → DifferIn all old new
+  pub rests_listed : (between all : List Layer) → Lists changed (take (length old - left) (drop left old)) between
+      → Lists between (take (length new - came) (drop came new)) all → DifferIn all old new
   rests_listed between all first second = record {
     agree = λ words x y under off.
         let parts = off_parts between (take (length new - came) (drop came new)) all x y second off in

@@ -1,5 +1,6 @@
 -- A run of words put over a row, and opaque layers.
-use Rattle.std.proofs.Common.{◌≡◌, ◌<◌, ◌≤◌, ℕ, ◌+◌, ◌-◌, ◌*◌, ◌/◌, min, if◌then◌else◌, Bool, true, false, not, ◌||◌, ◌==◌, cond, List, length, take, drop, slice_index, Some, ◌⊎◌, inl, inr, ⊎_elim, arith, rules, refl, ap, ◌∙◌}
+use Rattle.std.proofs.Common.{◌≡◌, ◌<◌, ◌≤◌, ℕ, ◌+◌, ◌-◌, ◌*◌, ◌/◌, min, if◌then◌else◌, Bool, true, false, not, ◌||◌, ◌==◌, cond, List}
+use Rattle.std.proofs.Common.{length, take, drop, slice_index, Some, ◌⊎◌, inl, inr, ⊎_elim, arith, rules, refl, ap, ◌∙◌}
 use Rattle.std.proofs.lemmas.Bool.{and_parts, cases_lt, eqb-true, not-true}
 use Rattle.std.specs.List.{flat_map, range_with_len}
 use Rattle.std.proofs.lemmas.List.{places}
@@ -90,7 +91,8 @@ pub front_place : (old : List ℕ) (n k : ℕ) → k < n → slice_index (take n
 front_place old n k h = search (rules, places)
 
 -- a colour at one of the first places
-front_colour : (red green blue : List ℕ) (n x : ℕ) → x < n → colour_at (take n red) (take n green) (take n blue) x ≡ colour_at red green blue x
+front_colour : (red green blue : List ℕ) (n x : ℕ) → x < n → colour_at (take n red) (take n green) (take n blue) x
+    ≡ colour_at red green blue x
 front_colour red green blue n x h = rw (front_place red n x h, front_place green n x h, front_place blue n x h) refl
 
 -- the bytes of the first pixels

@@ -1,5 +1,6 @@
 -- What is visible of a layer along one axis, and over both.
-use Rattle.std.proofs.Common.{◌≡◌, ◌<◌, ◌≤◌, ℕ, ◌+◌, ◌-◌, ◌*◌, Bool, true, false, cond, ◌&&◌, ℤ, pos, ◌+ℤ◌, ◌-ℤ◌, ◌≤ℤ◌, ◌<ℤ◌, int_le, int_lt, nat_le, nat_lt, List, Some, None, length, arith, refl, ap, sym, ◌∙◌}
+use Rattle.std.proofs.Common.{◌≡◌, ◌<◌, ◌≤◌, ℕ, ◌+◌, ◌-◌, ◌*◌, Bool, true, false, cond, ◌&&◌, ℤ, pos, ◌+ℤ◌, ◌-ℤ◌, ◌≤ℤ◌, ◌<ℤ◌, int_le}
+use Rattle.std.proofs.Common.{int_lt, nat_le, nat_lt, List, Some, None, length, arith, refl, ap, sym, ◌∙◌}
 use Rattle.std.specs.Int.{int_max, int_min}
 use Rattle.std.proofs.Math.Nat.{mul-le-mul_right}
 use Rattle.std.proofs.lemmas.Bool.{and_parts, leb-true}
@@ -26,7 +27,8 @@ use Rattle.kms_compose.specs.declared.parts.VisiblePart.{VisiblePart}
 use Rattle.kms_compose.specs.declared.sources.Reach.{Reach}
 use Rattle.kms_compose.specs.Areas.{FitsIn, IsNatural, is_in}
 use Rattle.kms_compose.specs.Images.{image_seen, seen_under, word_under}
-use Rattle.kms_compose.specs.Parts.{AreColumns, HasCount, IsCut, IsImageFor, IsPart, IsVisible, across, shown_at, down, is_within, part_colour}
+use Rattle.kms_compose.specs.Parts.{AreColumns, HasCount, IsCut, IsImageFor, IsPart, IsVisible, across, shown_at, down, is_within}
+use Rattle.kms_compose.specs.Parts.{part_colour}
 use Rattle.kms_compose.specs.Sources.{IsReach, IsSeen, source_place}
 use Rattle.kms_compose.proofs.Places.{place_below, seen_at}
 
@@ -47,7 +49,8 @@ record HasEdges (left top right bottom : ℤ) (v : Rect) : Type 0 where
 
 between : (left top right bottom : ℤ) (v : Rect) → between_edges left top right bottom ≡ Some v → HasEdges left top right bottom v
 between left top right bottom v e =
-    let both = cond_some (int_lt left right && int_lt top bottom) (record { x = left; y = top; w = right -ℤ left; h = bottom -ℤ top }) v e in
+    let both = cond_some (int_lt left right && int_lt top bottom) (record { x = left; y = top; w = right -ℤ left; h = bottom -ℤ top }) v e
+    in
     let tests = and_parts (int_lt left right) (int_lt top bottom) both.0 in record {
       wide = grind (arith, ints, tests.0);
       high = grind (arith, ints, tests.1);
@@ -57,7 +60,8 @@ between left top right bottom v e =
       h = ap (λ (r : Rect). r.h) both.1;
     }
 
-visible : (dst length left right start size : ℤ) (limit : ℕ) → left ≡ int_max dst (pos 0) → right ≡ int_min (dst +ℤ length) (pos 0 +ℤ pos limit) →
+visible : (dst length left right start size : ℤ) (limit : ℕ) → left ≡ int_max dst (pos 0) → right
+    ≡ int_min (dst +ℤ length) (pos 0 +ℤ pos limit) →
     left <ℤ right → left ≡ start → (right -ℤ left) ≡ size → IsClipped dst length start size limit
 visible dst length left right start size limit l r some s e = record {
   first = sym s ∙ l;
@@ -69,7 +73,8 @@ visible dst length left right start size limit l r some s e = record {
 clipped : (d : Rect) (m : Mode) (v : Rect) → clip d (mode_area m) ≡ Some v →
     IsClipped d.x d.w v.x v.w m.hdisplay × IsClipped d.y d.h v.y v.h m.vdisplay
 clipped d m v e =
-    let edges = between (int_max d.x (pos 0)) (int_max d.y (pos 0)) (int_min (d.x +ℤ d.w) (pos 0 +ℤ pos m.hdisplay)) (int_min (d.y +ℤ d.h) (pos 0 +ℤ pos m.vdisplay)) v e in
+    let edges = between (int_max d.x (pos 0)) (int_max d.y (pos 0)) (int_min (d.x +ℤ d.w) (pos 0 +ℤ pos m.hdisplay))
+    (int_min (d.y +ℤ d.h) (pos 0 +ℤ pos m.vdisplay)) v e in
     (visible _ _ _ _ _ _ _ refl refl edges.wide edges.x edges.w, visible _ _ _ _ _ _ _ refl refl edges.high edges.y edges.h)
 
 -- what is visible of a layer along both axes
@@ -81,7 +86,8 @@ pub axes : (m : Mode) (l : Layer) (v : Rect) → FitsMode m l → l.visible ≡ 
 axes m l v p e = let both = clipped l.dst m v (sym p.visible ∙ e) in record { x = both.0; y = both.1 }
 
 -- a visible pixel is one of the destination
-pub clipped_at : (dst length start size : ℤ) (limit at : ℕ) → IsClipped dst length start size limit → IsAt start size at → IsAt dst length at
+pub clipped_at : (dst length start size : ℤ) (limit at : ℕ) → IsClipped dst length start size limit → IsAt start size at
+    → IsAt dst length at
 clipped_at dst length start size limit at v is = record {
   first = omega (arith, ints, clamps, v.first, is.first);
   last = omega (arith, ints, clamps, v.last, is.last);
@@ -100,7 +106,8 @@ mode_end dst length start size limit v =
     let count = natural_pos size (size_low dst length start size limit v) in
     omega (arith, ints, clamps, v.last, first, count)
 
-seen_from : (r : Reach) (start size : ℤ) (limit : ℕ) → IsReach r → limit < 65536 → IsClipped r.dst r.wide start size limit → IsSeen r (natural start) (natural size)
+seen_from : (r : Reach) (start size : ℤ) (limit : ℕ) → IsReach r → limit < 65536 → IsClipped r.dst r.wide start size limit
+    → IsSeen r (natural start) (natural size)
 seen_from r start size limit is few v =
     let first = natural_pos start (start_low r.dst r.wide start size limit v) in
     let count = natural_pos size (size_low r.dst r.wide start size limit v) in
@@ -111,24 +118,29 @@ seen_from r start size limit is few v =
       few = omega (arith, few, ends);
     }
 
-reach_from : (r : Reach) (side : ℕ) → side < 4294967296 → pos 0 ≤ℤ r.src → IsBetween (pos 0) (pos 4294967295) r.long → IsBetween (pos 0) (pos 2147483647) r.wide →
+reach_from : (r : Reach) (side : ℕ) → side < 4294967296 → pos 0 ≤ℤ r.src → IsBetween (pos 0) (pos 4294967295) r.long
+    → IsBetween (pos 0) (pos 2147483647) r.wide →
     is_scaled_little r.long r.wide ≡ true → int_le (r.src +ℤ r.long) (pos (65536 * side)) ≡ true → IsReach r
-reach_from r side small src long wide little fits = record { src = src; long = long; wide = wide; little = little; ends = ends_at (r.src +ℤ r.long) side small fits }
+reach_from r side small src long wide little fits =
+    record { src = src; long = long; wide = wide; little = little; ends = ends_at (r.src +ℤ r.long) side small fits }
   where
     ends_at : (z : ℤ) (n : ℕ) → n < 4294967296 → int_le z (pos (65536 * n)) ≡ true → z ≤ℤ pos 281474976645120
     ends_at z n few e = grind (arith, ints, nat_tests)
 
 -- a layer that fits a mode, with the ranges of its framebuffer's sizes
-pub is_visible : (m : Mode) (l : Layer) (v : Rect) → m.hdisplay < 65536 → m.vdisplay < 65536 → l.fb.width < 4294967296 → l.fb.height < 4294967296 →
+pub is_visible : (m : Mode) (l : Layer) (v : Rect) → m.hdisplay < 65536 → m.vdisplay < 65536 → l.fb.width < 4294967296 → l.fb.height
+    < 4294967296 →
     FitsMode m l → l.visible ≡ Some v → IsVisible l v
 is_visible m l v narrow low wide high p e =
     let a = axes m l v p e in
-    let ends = and_parts (int_le (l.src.x +ℤ l.src.w) (pos (65536 * l.fb.width))) (int_le (l.src.y +ℤ l.src.h) (pos (65536 * l.fb.height))) p.fits in record {
+    let ends = and_parts (int_le (l.src.x +ℤ l.src.w) (pos (65536 * l.fb.width))) (int_le (l.src.y +ℤ l.src.h) (pos (65536 * l.fb.height)))
+    p.fits in record {
       left = start_low _ _ _ _ _ a.x;
       top = start_low _ _ _ _ _ a.y;
       wide = a.x.some;
       high = a.y.some;
-      columns = seen_from (across l) v.x v.w m.hdisplay (reach_from (across l) l.fb.width wide p.left p.src_w p.dst_w p.width ends.0) narrow a.x;
+      columns = seen_from (across l) v.x v.w m.hdisplay (reach_from (across l) l.fb.width wide p.left p.src_w p.dst_w p.width ends.0) narrow
+          a.x;
       rows = seen_from (down l) v.y v.h m.vdisplay (reach_from (down l) l.fb.height high p.top p.src_h p.dst_h p.height ends.1) low a.y;
     }
 
@@ -157,9 +169,11 @@ row_end place stride side total below long =
     let rows : (place + 1) * stride ≤ side * stride = mul-le-mul_right stride (omega (arith, below)) in
     omega (arith, rows, long)
 
-are_columns : (c : Places) (count width : ℕ) → HasCount c count → 0 < count → ((k : ℕ) → k < count → shown_at c k < width) → AreColumns c count width
+are_columns : (c : Places) (count width : ℕ) → HasCount c count → 0 < count → ((k : ℕ) → k < count → shown_at c k < width)
+    → AreColumns c count width
 are_columns (From first) count width has some below = let last = below (count - 1) (omega (arith, some)) in omega (arith, last, some)
-are_columns (At columns) count width has some below = (has, λ k d inside. let default = get_or_default columns.items k d 0 inside in rw default (below k (omega (arith, has, inside))))
+are_columns (At columns) count width has some below =
+    (has, λ k d inside. let default = get_or_default columns.items k d 0 inside in rw default (below k (omega (arith, has, inside))))
 
 pub size_some : (z : ℤ) → pos 0 <ℤ z → 0 < natural z
 size_some z some = let same = natural_pos z (omega (arith, ints, some)) in omega (arith, ints, same, some)
@@ -171,14 +185,17 @@ pub cut_is : (l : Layer) (v : Rect) (image : Image) (p : VisiblePart) → IsVisi
     → HasCount p.rows p.height → ((k : ℕ) → k < p.height → shown_at p.rows k ≡ source_place (down l) (p.top + k))
     → p.stride ≡ image.width → p.words.now ≡ image.words.now → IsCut l v image p
 cut_is l v image p shown its layer left top width height count places counted rows stride words =
-    let ends = and_parts (int_le (l.src.x +ℤ l.src.w) (pos (65536 * image.width))) (int_le (l.src.y +ℤ l.src.h) (pos (65536 * image.height))) its.fits in
+    let ends = and_parts (int_le (l.src.x +ℤ l.src.w) (pos (65536 * image.width)))
+    (int_le (l.src.y +ℤ l.src.h) (pos (65536 * image.height))) its.fits in
     let some = size_some v.w shown.wide in
     let below : (k : ℕ) → k < p.width → shown_at p.columns k < image.width = λ k within.
-    (let seen = seen_at (across l) (natural v.x) (natural v.w) (p.left + k) shown.columns (omega (arith, left)) (omega (arith, left, width, within)) in
+    (let seen = seen_at (across l) (natural v.x) (natural v.w) (p.left + k) shown.columns (omega (arith, left))
+    (omega (arith, left, width, within)) in
     let small = place_below (across l) (p.left + k) image.width seen ends.0 in
     omega (arith, places k within, small)) in
     let low : (k : ℕ) → k < p.height → shown_at p.rows k < image.height = λ k within.
-    (let seen = seen_at (down l) (natural v.y) (natural v.h) (p.top + k) shown.rows (omega (arith, top)) (omega (arith, top, height, within)) in
+    (let seen = seen_at (down l) (natural v.y) (natural v.h) (p.top + k) shown.rows (omega (arith, top))
+    (omega (arith, top, height, within)) in
     let small = place_below (down l) (p.top + k) image.height seen ends.1 in
     omega (arith, rows k within, small)) in
     let wide : 0 < image.width = (let first = below 0 (omega (arith, width, some)) in omega (arith, first)) in
@@ -195,7 +212,8 @@ cut_is l v image p shown its layer left top width height count places counted ro
       has_columns = rw stride (are_columns p.columns p.width image.width count (omega (arith, width, some)) below);
       has_rows = record {
         count = counted;
-        within = λ k within. rw (stride, words) (row_end (shown_at p.rows k) image.width image.height (length image.words.now) (low k within) its.words);
+        within = λ k within. rw (stride, words) (row_end (shown_at p.rows k) image.width image.height (length image.words.now)
+            (low k within) its.words);
         some = rw stride wide;
       };
     }
@@ -207,23 +225,27 @@ and_regrouped false b c d = refl
 -- a visible rectangle of natural numbers covers what is within both
 covered : (v : Rect) (left width top height x y : ℕ) → pos left ≡ v.x → pos width ≡ v.w → pos top ≡ v.y → pos height ≡ v.h →
     covers v x y ≡ (is_within left width x && is_within top height y)
-covered v left width top height x y l w t h = rw (← l, ← w, ← t, ← h) (and_regrouped (nat_le left x) (nat_lt x (left + width)) (nat_le top y) (nat_lt y (top + height)))
+covered v left width top height x y l w t h = rw (← l, ← w, ← t, ← h)
+    (and_regrouped (nat_le left x) (nat_lt x (left + width)) (nat_le top y) (nat_lt y (top + height)))
 
 number_is : (z : ℤ) (n : ℕ) → n ≡ natural z → pos 0 ≤ℤ z → pos n ≡ z
 number_is z n same low = ap pos same ∙ sym (natural_pos z low)
 
 -- the column that a pixel of a part shows
-column_is : (l : Layer) (v : Rect) (image : Image) (p : VisiblePart) (x : ℕ) → IsCut l v image p → IsInside p.left p.width x → shown_at p.columns (x - p.left) ≡ source_place (across l) x
+column_is : (l : Layer) (v : Rect) (image : Image) (p : VisiblePart) (x : ℕ) → IsCut l v image p → IsInside p.left p.width x
+    → shown_at p.columns (x - p.left) ≡ source_place (across l) x
 column_is l v image p x cut inside =
     cut.columns (x - p.left) (omega (arith, inside.low, inside.high)) ∙ ap (source_place (across l)) (omega (arith, inside.low))
 
 -- and the row
-row_is : (l : Layer) (v : Rect) (image : Image) (p : VisiblePart) (y : ℕ) → IsCut l v image p → IsInside p.top p.height y → shown_at p.rows (y - p.top) ≡ source_place (down l) y
+row_is : (l : Layer) (v : Rect) (image : Image) (p : VisiblePart) (y : ℕ) → IsCut l v image p → IsInside p.top p.height y
+    → shown_at p.rows (y - p.top) ≡ source_place (down l) y
 row_is l v image p y cut inside =
     cut.rows (y - p.top) (omega (arith, inside.low, inside.high)) ∙ ap (source_place (down l)) (omega (arith, inside.low))
 
 -- a layer has the colours of the part that is cut out of its image
-pub cut_colour : (images : List FbImage) (l : Layer) (v : Rect) (image : Image) (p : VisiblePart) → seen_under images l.fb.id ≡ Some (image_seen image) → l.visible ≡ Some v →
+pub cut_colour : (images : List FbImage) (l : Layer) (v : Rect) (image : Image) (p : VisiblePart) → seen_under images l.fb.id
+    ≡ Some (image_seen image) → l.visible ≡ Some v →
     IsVisible l v → IsCut l v image p → (x y : ℕ) → layer_colour (word_under images) x y l ≡ part_colour p x y
 cut_colour images l v image p found seen shown cut x y =
     let left = number_is v.x p.left cut.left shown.left in
@@ -238,7 +260,8 @@ cut_colour images l v image p found seen shown cut x y =
     rw (cut.layer, row, cut.stride, cut.words, column) refl))
 
 -- and that part's rows and columns are those of its image
-pub cut_part : (m : Mode) (l : Layer) (v : Rect) (image : Image) (p : VisiblePart) → FitsMode m l → IsVisible l v → IsCut l v image p → IsPart p
+pub cut_part : (m : Mode) (l : Layer) (v : Rect) (image : Image) (p : VisiblePart) → FitsMode m l → IsVisible l v → IsCut l v image p
+    → IsPart p
 cut_part m l v image p placed shown cut = record {
   narrow = omega (arith, shown.columns.few, cut.left, cut.width);
   words = cut.has_rows;

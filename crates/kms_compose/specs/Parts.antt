@@ -1,5 +1,6 @@
 -- The visible parts of layers in pixels of the mode, and what they put on a row.
-use Rattle.std.specs.Prelude.{◌≡◌, ◌<◌, ◌≤◌, ℕ, ◌+◌, ◌-◌, ◌*◌, pos, ◌≤ℤ◌, ◌<ℤ◌, All, ⊤, Bool, true, false, not, ◌&&◌, ◌||◌, ◌==◌, nat_le, nat_lt, List, [], ◌∷◌, Option, Some, None, length, slice_index, if◌then◌else◌}
+use Rattle.std.specs.Prelude.{◌≡◌, ◌<◌, ◌≤◌, ℕ, ◌+◌, ◌-◌, ◌*◌, pos, ◌≤ℤ◌, ◌<ℤ◌, All, ⊤, Bool, true, false, not, ◌&&◌, ◌||◌, ◌==◌, nat_le}
+use Rattle.std.specs.Prelude.{nat_lt, List, [], ◌∷◌, Option, Some, None, length, slice_index, if◌then◌else◌}
 use Rattle.kms_model.specs.declared.objects.Format.{Format}
 use Rattle.kms_model.specs.declared.objects.Format.TheVariants.{Xr24, Ar24, Rg16}
 use Rattle.kms_model.specs.declared.pictures.Colour.{Colour}
@@ -35,7 +36,8 @@ part_word p x y = slice_index p.words.now (shown_at p.rows (y - p.top) * p.strid
 
 -- the colour of a part at a pixel
 abbrev pub part_colour : VisiblePart → ℕ → ℕ → Option Colour
-part_colour p x y = if is_within p.left p.width x && is_within p.top p.height y then Some (colour_of p.layer.fb.format (part_word p x y)) else None
+part_colour p x y = if is_within p.left p.width x && is_within p.top p.height y then Some (colour_of p.layer.fb.format (part_word p x y))
+    else None
 
 -- the colour at a pixel of a layer whose visible part this is, where anything of it is visible
 abbrev pub seen_colour : Option VisiblePart → ℕ → ℕ → Option Colour
@@ -45,7 +47,8 @@ seen_colour (Some p) x y = part_colour p x y
 -- the colour at a place of a row of a part, of whose image this is the row that it shows there
 abbrev pub on_row : VisiblePart → Option (List ℕ) → ℕ → Option Colour
 on_row p None x = None
-on_row p (Some row) x = if is_within p.left p.width x then Some (colour_of p.layer.fb.format (slice_index row (shown_at p.columns (x - p.left)))) else None
+on_row p (Some row) x = if is_within p.left p.width x
+    then Some (colour_of p.layer.fb.format (slice_index row (shown_at p.columns (x - p.left)))) else None
 
 -- what a layer shows from left to right, and from top to bottom
 abbrev pub across : Layer → Reach

@@ -34,7 +34,8 @@ done_as v n steps s x history one is = history ∙ ap (gains v) (one ∙ ap (λ 
 pub blank_asked : (v : Run) (kind : Kind) (index : ℕ) → IsLegal v (step.Vblank kind index) → IsLegal v (step.Vblank Crtc index)
 blank_asked v kind index asked = subst (λ k. IsLegal v (step.Vblank k index)) (vblank_kind v kind index asked) asked
 
-pub flush_asked : (v : Run) → HasFewObjects v.script.topology → (k : ℕ) (kind : Kind) (index : ℕ) → IsLegal v (step.Flush k kind index) → IsLegal v (step.Flush k Crtc index)
+pub flush_asked : (v : Run) → HasFewObjects v.script.topology → (k : ℕ) (kind : Kind) (index : ℕ) → IsLegal v (step.Flush k kind index)
+    → IsLegal v (step.Flush k Crtc index)
 flush_asked v few k kind index asked = subst (λ x. IsLegal v (step.Flush k x index)) (flush_kind v few k kind index asked) asked
 
 -- Locks
@@ -64,7 +65,8 @@ module _ (v : Run) (client : ℕ) (id : ObjId) (asked : may_ask v client id ≡ 
   pub taking_there : (d : Doing) → d ≡ doing_at (machine v) client → ((t : Ticket) → d ≡ doing.Taking t → ⊥) → ⊥
   taking_there d is other = lock_there v client (kind_of id.0) (index_of id.0) d asked_is is other
 
-  pub lock_allowed : HasFewObjects v.script.topology → (d : Doing) (t : Ticket) → d ≡ doing_at (machine v) client → d ≡ doing.Taking t → MayLock v t id
+  pub lock_allowed : HasFewObjects v.script.topology → (d : Doing) (t : Ticket) → d ≡ doing_at (machine v) client → d ≡ doing.Taking t
+      → MayLock v t id
   lock_allowed few d t is takes = lock_asked v few client (kind_of id.0) (index_of id.0) d t id asked_is is takes (same_id id asked_id)
 
   -- each answer is a step

@@ -48,8 +48,10 @@ never object = of_kind (kind_of object) where
 
 -- A context with no states
 
-pub bare_taken : (r : Run) (client : ℕ) (t : Ticket) (request : Request) (states : Duplicates) → request_at r.script (machine r) client ≡ Some request → doing_at (machine r) client ≡ doing.Taking t → states ≡ none_duplicated
-    → Agrees r.script.topology (machine r).device.world.things (machine r).device.world.values states → HasTaken r (record { client = client; ticket = t; request = request; states = states })
+pub bare_taken : (r : Run) (client : ℕ) (t : Ticket) (request : Request) (states : Duplicates) → request_at r.script (machine r) client
+    ≡ Some request → doing_at (machine r) client ≡ doing.Taking t → states ≡ none_duplicated
+    → Agrees r.script.topology (machine r).device.world.things (machine r).device.world.values states
+    → HasTaken r (record { client = client; ticket = t; request = request; states = states })
 bare_taken r client t request states at taking none agrees = record {
   at = at;
   taking = taking;
@@ -94,7 +96,8 @@ module _ (r : Run) (c : RequestContext) (id : ObjId) where
     pub with_held : (states : Duplicates) → IsTakenUp c.states id.0 state states → HasTaken r c → HasTaken r (record c { states = states })
     with_held states up takes =
         let own : IsStateOf r.script.topology (machine r).device.world.things (machine r).device.world.values id.0 state =
-        subst (IsStateOf r.script.topology (machine r).device.world.things (machine r).device.world.values id.0) present (is_state r.script.topology (machine r).device.world (kind_of id.0) id.0) in
+        subst (IsStateOf r.script.topology (machine r).device.world.things (machine r).device.world.values id.0) present
+        (is_state r.script.topology (machine r).device.world (kind_of id.0) id.0) in
         record {
           at = takes.at;
           taking = takes.taking;

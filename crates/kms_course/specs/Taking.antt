@@ -36,7 +36,8 @@ bare_context client t request = record { client = client; ticket = t; request = 
 -- that of a client which takes locks for a request
 abbrev pub bare_context_at : Run → ℕ → Option RequestContext
 bare_context_at r client =
-    option_and_then (λ t. option_map (bare_context client t) (request_at r.script (machine r) client)) (ticket_taking (doing_at (machine r) client))
+    option_and_then (λ t. option_map (bare_context client t) (request_at r.script (machine r) client))
+    (ticket_taking (doing_at (machine r) client))
 
 -- States are duplicated
 

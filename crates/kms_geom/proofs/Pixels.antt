@@ -39,10 +39,28 @@ common_edges : (m n : Rect) (x y : ℤ) →
     ↔ (HasPixel m x y × HasPixel n x y)
 common_edges m n x y = (
   (λ h. (
-    record { left = omega (arith, ints, clamps); right = omega (arith, ints, clamps); top = omega (arith, ints, clamps); bottom = omega (arith, ints, clamps) },
-    record { left = omega (arith, ints, clamps); right = omega (arith, ints, clamps); top = omega (arith, ints, clamps); bottom = omega (arith, ints, clamps) },
+    record {
+      left = omega (arith, ints, clamps);
+      right = omega (arith, ints, clamps);
+      top = omega (arith, ints, clamps);
+      bottom = omega
+          (arith, ints, clamps);
+    },
+    record {
+      left = omega (arith, ints, clamps);
+      right = omega (arith, ints, clamps);
+      top = omega (arith, ints, clamps);
+      bottom = omega
+          (arith, ints, clamps);
+    },
   )),
-  (λ h. record { left = omega (arith, ints, clamps); right = omega (arith, ints, clamps); top = omega (arith, ints, clamps); bottom = omega (arith, ints, clamps) }),
+  (λ h. record {
+    left = omega (arith, ints, clamps);
+    right = omega (arith, ints, clamps);
+    top = omega (arith, ints, clamps);
+    bottom = omega
+        (arith, ints, clamps);
+  }),
 )
 
 -- a pixel is in the clipped rectangle exactly where it is in both

@@ -31,7 +31,8 @@ module _ {E : Type 0} where
   serving (Waits n) = 0
   serving (Serves q) = 1
 
-  -- the counts below it are in the words for what the seat has seen: all four, but for the seat that has stored a length and has counts still to store
+  -- the counts below it are in the words for what the seat has seen: all four, but for the seat that has stored a length and has counts
+  -- still to store
   abbrev pub due : Stage E → ℕ
   due Idle = 4
   due (Waits n) = 4
@@ -51,13 +52,15 @@ pub record Numbers {E X : Type 0} (tickets served : ℕ) (views : List (View E X
   pub next : tickets ≡ (served + having views) % 2 ^ 64
   pub within : (j : ℕ) (v : View E X) → At views j v → turns_drawn v.stage ≡ 1 → place j < having views
   pub counted : (j : ℕ) (v : View E X) → At views j v → turns_drawn v.stage ≡ 1 → number v.stage ≡ (served + place j) % 2 ^ 64
-  pub apart : (i j : ℕ) (v w : View E X) → At views i v → At views j w → turns_drawn v.stage ≡ 1 → turns_drawn w.stage ≡ 1 → place i ≡ place j → i ≡ j
+  pub apart : (i j : ℕ) (v w : View E X) → At views i v → At views j w → turns_drawn v.stage ≡ 1 → turns_drawn w.stage ≡ 1 → place i
+      ≡ place j → i ≡ j
   pub filled : (k : ℕ) → k < having views → (j : ℕ) × (v : View E X) × At views j v × (turns_drawn v.stage ≡ 1) × (place j ≡ k)
 
 -- The value. It is out only with the seat whose number is served, and else it is at home, where it `fits`.
-pub record Held {T E X : Type 0} (fits : T → Type 0) (slot : maybe.Option (Option T)) (views : List (View E X)) (place : ℕ → ℕ) : Type 0 where
-  pub out : (j : ℕ) (v : View E X) → At views j v → serving v.stage ≡ 1 → (place j ≡ 0) × (slot ≡ none)
-  pub home : ((t : T) × (slot ≡ some (Some t)) × fits t) ⊎ ((j : ℕ) × (v : View E X) × At views j v × (serving v.stage ≡ 1))
+pub record Held {T E X : Type 0} (fits : T → Type 0) (slot : maybe.Option (Option T)) (views : List (View E X)) (place : ℕ → ℕ) : Type 0
+  where
+    pub out : (j : ℕ) (v : View E X) → At views j v → serving v.stage ≡ 1 → (place j ≡ 0) × (slot ≡ none)
+    pub home : ((t : T) × (slot ≡ some (Some t)) × fits t) ⊎ ((j : ℕ) × (v : View E X) × At views j v × (serving v.stage ≡ 1))
 
 -- The seats. Each stands for a part of those that the lock was made for; a spent seat stands for none, has no number and has made nothing.
 pub record PartsOfSeats {E X : Type 0} (seats : ℕ) (views : List (View E X)) : Type 0 where
@@ -109,13 +112,17 @@ GoesOnFrom {E} owner rank seen log = (rest : List E) × (log ≡ seen ++ rest) �
 abbrev pub IsStart : {E : Type 0} → List E → List E → Type 0
 IsStart {E} seen log = (rest : List E) × (log ≡ seen ++ rest)
 
--- What the seats have seen begins the history that was stored last, and has all entries there of the seat's rank. Its counts are at most those in the words.
-pub record Sights {E X : Type 0} (owner : E → ℕ) (counted : ℕ → List E → ℕ) (log : List E) (counts : List ℕ) (views : List (View E X)) : Type 0 where
+-- What the seats have seen begins the history that was stored last, and has all entries there of the seat's rank. Its counts are at most
+-- those in the words.
+pub record Sights {E X : Type 0} (owner : E → ℕ) (counted : ℕ → List E → ℕ) (log : List E) (counts : List ℕ) (views : List (View E X)) :
+    Type 0 where
   pub begins : (j : ℕ) (v : View E X) → At views j v → 0 < v.parts → GoesOnFrom owner v.rank v.seen log
-  pub counted_in : (j : ℕ) (v : View E X) → At views j v → 0 < v.parts → (k : ℕ) → k < 4 → k < due v.stage → counted k v.seen ≤ slice_index counts k
+  pub counted_in : (j : ℕ) (v : View E X) → At views j v → 0 < v.parts → (k : ℕ) → k < 4 → k < due v.stage → counted k v.seen
+      ≤ slice_index counts k
   pub joined : (j : ℕ) (v : View E X) → At views j v → All (λ xs. IsStart xs log) v.joined
 
-pub record IsUpheld {T E X : Type 0} (owner : E → ℕ) (entries : T → List E) (counted : ℕ → List E → ℕ) (fixed : T → X) (seats : ℕ) (stays : X) (s : State (Option T) (View E X)) : Type 0 where
+pub record IsUpheld {T E X : Type 0} (owner : E → ℕ) (entries : T → List E) (counted : ℕ → List E → ℕ) (fixed : T → X) (seats : ℕ)
+    (stays : X) (s : State (Option T) (View E X)) : Type 0 where
   pub tickets : ℕ
   pub served : ℕ
   pub log : List E

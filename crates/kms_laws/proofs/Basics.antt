@@ -1,6 +1,7 @@
 -- Tests on lists, marks and tables.
 use Rattle.std.proofs.Common.{◌≡◌, ℕ, List, [], ◌∷◌, ◌++◌, Bool, true, false, ◌&&◌, ◌==◌, refl, sym, ◌∙◌, inl, inr, ◌⊎◌, ⊎_elim}
-use Rattle.std.proofs.lemmas.Bool.{and_parts, or_cases, and_from, or_left, or_right, eqb-true, eq-eqb, ne_eqb, cond-true, cond-false, false≢true}
+use Rattle.std.proofs.lemmas.Bool.{and_parts, or_cases, and_from, or_left, or_right, eqb-true, eq-eqb, ne_eqb, cond-true, cond-false}
+use Rattle.std.proofs.lemmas.Bool.{false≢true}
 use Rattle.kms_model.specs.Machine.Commits.{has_number, has_pair}
 use Rattle.kms_model.specs.Machine.Registers.{read}
 use Rattle.kms_model.proofs.Items.{IsIn}
@@ -43,9 +44,11 @@ number_more x xs k h = or_right (x == k) (has_number xs k) h
 pub number_now : (x : ℕ) (xs : List ℕ) → has_number (x ∷ xs) x ≡ true
 number_now x xs = or_left (x == x) (has_number xs x) (eq-eqb x x refl)
 
-pub pair_cases : (x y : ℕ) (xs : List (ℕ × ℕ)) (k o : ℕ) → has_pair ((x, y) ∷ xs) k o ≡ true → ((x ≡ k) × (y ≡ o)) ⊎ (has_pair xs k o ≡ true)
+pub pair_cases : (x y : ℕ) (xs : List (ℕ × ℕ)) (k o : ℕ) → has_pair ((x, y) ∷ xs) k o ≡ true → ((x ≡ k) × (y ≡ o))
+    ⊎ (has_pair xs k o ≡ true)
 pair_cases x y xs k o h =
-    ⊎_elim (λ e. let p = and_parts (x == k) (y == o) e in inl (eqb-true x k p.0, eqb-true y o p.1)) (λ e. inr e) (or_cases ((x == k) && (y == o)) (has_pair xs k o) h)
+    ⊎_elim (λ e. let p = and_parts (x == k) (y == o) e in inl (eqb-true x k p.0, eqb-true y o p.1)) (λ e. inr e)
+    (or_cases ((x == k) && (y == o)) (has_pair xs k o) h)
 
 pub pair_more : (x y : ℕ) (xs : List (ℕ × ℕ)) (k o : ℕ) → has_pair xs k o ≡ true → has_pair ((x, y) ∷ xs) k o ≡ true
 pair_more x y xs k o h = or_right ((x == k) && (y == o)) (has_pair xs k o) h

@@ -26,29 +26,35 @@ module _ (s : Script) (m : Machine) (crtc : ℕ) (few : crtc < 4) where
   abbrev Adds : Step → Machine → Type 0
   Adds step m2 = count_at m2.device (object_id Crtc crtc) ≡ one_more_if (is_blanking crtc step) (count_at m.device (object_id Crtc crtc))
 
-  counted_now : (at : ℕ) → at ≡ object_id Crtc crtc → read 0 ((at, count_at m.device at + 1) ∷ m.device.counts) (object_id Crtc crtc) ≡ suc (count_at m.device (object_id Crtc crtc))
+  counted_now : (at : ℕ) → at ≡ object_id Crtc crtc → read 0 ((at, count_at m.device at + 1) ∷ m.device.counts) (object_id Crtc crtc)
+      ≡ suc (count_at m.device (object_id Crtc crtc))
   counted_now at same =
       let own = read_same 0 m.device.counts (object_id Crtc crtc) (count_at m.device (object_id Crtc crtc) + 1) in
       ap (λ z. read 0 ((z, count_at m.device z + 1) ∷ m.device.counts) (object_id Crtc crtc)) same ∙ own ∙ omega arith
 
-  counted_elsewhere : (at : ℕ) → (at ≡ object_id Crtc crtc → ⊥) → read 0 ((at, count_at m.device at + 1) ∷ m.device.counts) (object_id Crtc crtc) ≡ count_at m.device (object_id Crtc crtc)
+  counted_elsewhere : (at : ℕ) → (at ≡ object_id Crtc crtc → ⊥)
+      → read 0 ((at, count_at m.device at + 1) ∷ m.device.counts) (object_id Crtc crtc) ≡ count_at m.device (object_id Crtc crtc)
   counted_elsewhere at other = read_other 0 m.device.counts at (object_id Crtc crtc) (count_at m.device at + 1) other
 
   blank_adds : (kind : Kind) (index : ℕ) → Adds (Vblank kind index) (counts_vblank m (object_id kind index))
   blank_adds Crtc index =
       ⊎_elim
-      (λ (same : index ≡ crtc). counted_now (object_id Crtc index) (ap (object_id Crtc) same) ∙ sym (ap (λ b. one_more_if b (count_at m.device (object_id Crtc crtc))) (eq-eqb index crtc same)))
-      (λ other. counted_elsewhere (object_id Crtc index) (λ same. other (omega (arith, same))) ∙ sym (ap (λ b. one_more_if b (count_at m.device (object_id Crtc crtc))) (ne_eqb index crtc other)))
+      (λ (same : index ≡ crtc). counted_now (object_id Crtc index) (ap (object_id Crtc) same) ∙ sym
+      (ap (λ b. one_more_if b (count_at m.device (object_id Crtc crtc))) (eq-eqb index crtc same)))
+      (λ other. counted_elsewhere (object_id Crtc index) (λ same. other (omega (arith, same))) ∙ sym
+      (ap (λ b. one_more_if b (count_at m.device (object_id Crtc crtc))) (ne_eqb index crtc other)))
       (cases_eq index crtc)
   blank_adds Plane index = counted_elsewhere (object_id Plane index) (λ same. omega (arith, same, few))
   blank_adds Conn index = counted_elsewhere (object_id Conn index) (λ same. omega (arith, same, few))
   blank_adds Enc index = counted_elsewhere (object_id Enc index) (λ same. omega (arith, same, few))
 
   leaves : (step : Step) → is_swap step ≡ false → is_vblank step ≡ false → Adds step m
-  leaves step no_swap no_blanking = sym (ap (λ b. one_more_if b (count_at m.device (object_id Crtc crtc))) (of_no_crtc crtc step no_blanking))
+  leaves step no_swap no_blanking = sym (ap (λ b. one_more_if b (count_at m.device (object_id Crtc crtc)))
+      (of_no_crtc crtc step no_blanking))
 
   carries_adds : Carries s m Adds
-  carries_adds = counts_carried s m (λ step n counts. read 0 counts (object_id Crtc crtc) ≡ one_more_if (is_blanking crtc step) (count_at m.device (object_id Crtc crtc))) leaves (λ client. refl) blank_adds
+  carries_adds = counts_carried s m (λ step n counts. read 0 counts (object_id Crtc crtc)
+      ≡ one_more_if (is_blanking crtc step) (count_at m.device (object_id Crtc crtc))) leaves (λ client. refl) blank_adds
 
   step_adds : (step : Step) → legal s m step ≡ true → Adds step (next s m step)
   step_adds step h = each_step s m Adds carries_adds step h
@@ -67,7 +73,8 @@ all_add s crtc few (step ∷ steps) m legal_steps =
     ∙ ap (λ n. blankings crtc steps + n) (step_adds s m crtc few step both.0)
     ∙ one_more (is_blanking crtc step) (blankings crtc steps) (count_at m.device (object_id Crtc crtc))
 
-pub counts_blankings : (s : Script) (h : List Step) → is_history s h ≡ true → (crtc : ℕ) → crtc < 4 → count_at (at s h).device (object_id Crtc crtc) ≡ blankings crtc h
+pub counts_blankings : (s : Script) (h : List Step) → is_history s h ≡ true → (crtc : ℕ) → crtc < 4
+    → count_at (at s h).device (object_id Crtc crtc) ≡ blankings crtc h
 unfolding read
 counts_blankings s h is crtc few =
     let none : count_at (first_machine s.topology).device (object_id Crtc crtc) ≡ 0 = refl in

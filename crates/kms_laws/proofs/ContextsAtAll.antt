@@ -38,9 +38,11 @@ contexts-stand s h plain is =
     let m = at s h in
     let L = (history_facts s h plain is).locks in
     record {
-      held = λ client object held. in-number (lockable s.topology) object (L.held_there object client (value-is client (holder_at m object) held));
+      held = λ client object held. in-number (lockable s.topology) object
+          (L.held_there object client (value-is client (holder_at m object) held));
       holders = λ client object held. holder-is (doing_at m client) (L.holders object client (value-is client (holder_at m object) held));
-      taken_first = λ client object e. in-number (lockable s.topology) object (L.asked_there client object (contended-asked (doing_at m client) object e));
+      taken_first = λ client object e. in-number (lockable s.topology) object
+          (L.asked_there client object (contended-asked (doing_at m client) object e));
       tickets = λ a b ta tb e. L.unique a b ta tb e;
       commits = λ client k e. L.returning client k (returning-is (doing_at m client) k e);
     }

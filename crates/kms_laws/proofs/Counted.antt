@@ -2,7 +2,8 @@
 use Rattle.std.proofs.Common.{◌≡◌, ℕ, suc, ◌+◌, List, length, Bool, true, false, refl}
 use Rattle.kms_model.specs.declared.objects.Kind.{Kind}
 use Rattle.kms_model.specs.declared.replies.Step.{Step}
-use Rattle.kms_model.specs.declared.replies.Step.TheVariants.{Begin, BackOff, Claim, Cleanup, Flush, HwDone, Lock, Make, Read, Refuse, Relock, Return, Signal, Stall, Swap, Test, Vblank, Write}
+use Rattle.kms_model.specs.declared.replies.Step.TheVariants.{Begin, BackOff, Claim, Cleanup, Flush, HwDone, Lock, Make, Read, Refuse}
+use Rattle.kms_model.specs.declared.replies.Step.TheVariants.{Relock, Return, Signal, Stall, Swap, Test, Vblank, Write}
 use Rattle.kms_model.specs.declared.scripts.Script.{Script}
 use Rattle.kms_model.specs.Device.Execution.{execute}
 use Rattle.kms_model.specs.Device.Objects.{object_id}
@@ -36,10 +37,14 @@ module _ (s : Script) (m : Machine) (Q : Step → ℕ → List (ℕ × ℕ) → 
     answers = record {
       refuses = λ client r e taking may. same (Refuse client) refl refl;
       tests = λ client r e taking may. same (Test client) refl refl;
-      swaps = λ client r e taking may b w eb ew. by_two (λ b w. Told (Swap client) (swapped_as s.topology b w m client r)) (swap client) (swap client) (swap client) (swap client) b w;
-      makes = λ client c e making idle b eb. by_bool (λ b. Told (Make client) (made_as b m client (execute s.topology m.device.world client c))) (same (Make client) refl refl) (same (Make client) refl refl) b;
+      swaps = λ client r e taking may b w eb ew. by_two (λ b w. Told (Swap client) (swapped_as s.topology b w m client r)) (swap client)
+          (swap client) (swap client) (swap client) b w;
+      makes = λ client c e making idle b eb. by_bool
+          (λ b. Told (Make client) (made_as b m client (execute s.topology m.device.world client c))) (same (Make client) refl refl)
+          (same (Make client) refl refl) b;
       signalled = λ client c e is_signal idle o.
-          by_fence (λ o. Told (Signal client) (goes_on (signals (answers m client (execute s.topology m.device.world client c).reply) o) client)) (same (Signal client) refl refl) (λ fence. same (Signal client) refl refl) o;
+          by_fence (λ o. Told (Signal client) (goes_on (signals (answers m client (execute s.topology m.device.world client c).reply) o)
+          client)) (same (Signal client) refl refl) (λ fence. same (Signal client) refl refl) o;
       read_none = λ client c e is_wait idle none. same (Read client) refl refl;
       read_one = λ client c e is_wait idle event events some. same (Read client) refl refl;
     };
@@ -49,12 +54,14 @@ module _ (s : Script) (m : Machine) (Q : Step → ℕ → List (ℕ × ℕ) → 
       waits = λ k kind index written found. same (Flush k kind index) refl refl;
       flushed = λ k kind index written found b o eb eo.
           let one = same (Flush k kind index) refl refl in
-          by_latch (λ b o. Told (Flush k kind index) (latched_as s.topology b o (flushed_at m k (object_id kind index)) k (object_id kind index) (count_at m.device (object_id kind index)))) one (λ fence. one) one (λ fence. one) b o;
+          by_latch (λ b o. Told (Flush k kind index) (latched_as s.topology b o (flushed_at m k (object_id kind index)) k
+          (object_id kind index) (count_at m.device (object_id kind index)))) one (λ fence. one) one (λ fence. one) b o;
       done = λ k a b c d. same (HwDone k) refl refl;
       counted = λ kind index is none. blank kind index;
       blanked = λ kind index k is some b o eb eo.
           let one = blank kind index in
-          by_latch (λ b o. Told (Vblank kind index) (latched_as s.topology b o (counts_vblank m (object_id kind index)) k (object_id kind index) (count_at m.device (object_id kind index) + 1))) one (λ fence. one) one (λ fence. one) b o;
+          by_latch (λ b o. Told (Vblank kind index) (latched_as s.topology b o (counts_vblank m (object_id kind index)) k
+          (object_id kind index) (count_at m.device (object_id kind index) + 1))) one (λ fence. one) one (λ fence. one) b o;
       cleaned = λ k a b c. same (Cleanup k) refl refl;
     };
     stalled = λ h. same Stall refl refl;

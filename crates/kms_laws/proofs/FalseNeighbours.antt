@@ -1,5 +1,6 @@
 -- Why the rules are as they are: neighbours of the laws that are false, each shown by a history, computed.
-use Rattle.std.proofs.Common.{◌≡◌, ℕ, List, [], ◌∷◌, ◌++◌, map, length, Bool, true, false, ◌&&◌, ◌||◌, not, ◌==◌, Option, Some, None, refl, codes}
+use Rattle.std.proofs.Common.{◌≡◌, ℕ, List, [], ◌∷◌, ◌++◌, map, length, Bool, true, false, ◌&&◌, ◌||◌, not, ◌==◌, Option, Some, None, refl}
+use Rattle.std.proofs.Common.{codes}
 use Rattle.std.specs.Prelude.{if◌then◌else◌, nat_lt, Ok, Err, Result}
 use Rattle.std.specs.List.{list_all}
 use Rattle.std.specs.Option.{option_map}
@@ -23,7 +24,8 @@ use Rattle.kms_model.specs.Machine.Effects.{backed_off, next, now_doing}
 use Rattle.kms_model.specs.Machine.Histories.{at, is_history, journal, last_latched, latched}
 use Rattle.kms_model.specs.Machine.Registers.{decoded_picture}
 use Rattle.kms_model.specs.Machine.State.{Machine, doing_at, first_machine, holder_at, holds}
-use Rattle.kms_model.specs.Machine.Steps.{holds_touched, is_lockable, is_ready, is_refused_late, is_settled_for, may, may_lock, taking_at, ticket_of}
+use Rattle.kms_model.specs.Machine.Steps.{holds_touched, is_lockable, is_ready, is_refused_late, is_settled_for, may, may_lock, taking_at}
+use Rattle.kms_model.specs.Machine.Steps.{ticket_of}
 use Rattle.kms_model.specs.Machine.Waits.{waits_at_lock, waits_at_relock}
 use Rattle.kms_model.specs.Request.Flags.{is_test}
 use Rattle.kms_model.specs.Request.Reach.{reaches}
@@ -86,7 +88,8 @@ pub claims_by_crtcs_latch_another_picture : told (λ s h. map (λ l. layers l.pi
 unfolding on_machines
 claims_by_crtcs_latch_another_picture = refl
 
-pub one_thread_shows_the_plane : told (λ s h. map (λ p. layers p.picture) (show s (journal (at s h)) (object_id Crtc 1))) [] overtaken ≡ 0 ∷ 1 ∷ []
+pub one_thread_shows_the_plane : told (λ s h. map (λ p. layers p.picture) (show s (journal (at s h)) (object_id Crtc 1))) [] overtaken ≡ 0
+    ∷ 1 ∷ []
 unfolding on_machines
 one_thread_shows_the_plane = refl
 
@@ -98,7 +101,8 @@ straight (Some n) = n == SWITCHES_CRTC.0
 
 -- a swap is legal also where the first refusal is that
 pub may_swap_straight : Topology → Machine → ℕ → Request → Bool
-may_swap_straight t m client r = not (is_test r.flags) && (holds_touched t m client r && (straight (verdict t m.device.world r) && (not (is_refused_late t m client r) && is_ready t m r)))
+may_swap_straight t m client r = not (is_test r.flags)
+    && (holds_touched t m client r && (straight (verdict t m.device.world r) && (not (is_refused_late t m client r) && is_ready t m r)))
 
 pub straight_moves : Script → Machine → Step → Bool
 straight_moves s m (Swap client) = taking_at s m client (may_swap_straight s.topology m client)
@@ -113,7 +117,8 @@ unfolding on_machines keep straight_moves may_swap_straight straight
 straight_moves_are_legal = refl
 
 -- The first CRTC shows no layer any more, while the last picture that it latched has one.
-pub straight_move_mixes_pictures : told (λ s h. layers (decoded_picture s.topology (at s h).device.live (object_id Crtc 0)) ∷ layers (last_latched (at s h).records.latches 0) ∷ []) [] moved_straight ≡ 0 ∷ 1 ∷ []
+pub straight_move_mixes_pictures : told (λ s h. layers (decoded_picture s.topology (at s h).device.live (object_id Crtc 0))
+    ∷ layers (last_latched (at s h).records.latches 0) ∷ []) [] moved_straight ≡ 0 ∷ 1 ∷ []
 unfolding on_machines
 straight_move_mixes_pictures = refl
 
@@ -128,11 +133,13 @@ is_free_or_younger m ticket (Some holder) = nat_lt ticket (ticket_of (doing_at m
 pub may_lock_turned : Script → Machine → ℕ → ℕ → Bool
 may_lock_turned s m client object =
     if object == object_id Plane 0
-    then taking_at s m client (λ r. reaches s.topology m.device.world r object) && is_free_or_younger m (ticket_of (doing_at m client)) (holder_at m object)
+    then taking_at s m client (λ r. reaches s.topology m.device.world r object)
+    && is_free_or_younger m (ticket_of (doing_at m client)) (holder_at m object)
     else may_lock s m client object
 
 pub waits_by : (Script → Machine → ℕ → ℕ → Bool) → Script → Machine → ℕ → ℕ → ℕ → Bool
-waits_by rule s m x y object = taking_at s m x (λ r. reaches s.topology m.device.world r object) && (holds m y object && not (rule s m x object))
+waits_by rule s m x y object = taking_at s m x (λ r. reaches s.topology m.device.world r object)
+    && (holds m y object && not (rule s m x object))
 
 -- three clients, of which each holds one object and needs that of the next
 abbrev three_clients : List ℕ
@@ -152,7 +159,8 @@ unfolding on_machines
 three_clients_hold_one_object_each = refl
 
 abbrev waits_in_turn : (Script → Machine → ℕ → ℕ → Bool) → Script → List Step → List Bool
-waits_in_turn rule s h = waits_by rule s (at s h) 1 2 (object_id Crtc 0) ∷ waits_by rule s (at s h) 2 3 (object_id Conn 0) ∷ waits_by rule s (at s h) 3 1 (object_id Plane 0) ∷ []
+waits_in_turn rule s h = waits_by rule s (at s h) 1 2 (object_id Crtc 0) ∷ waits_by rule s (at s h) 2 3 (object_id Conn 0)
+    ∷ waits_by rule s (at s h) 3 1 (object_id Plane 0) ∷ []
 
 -- by that rule each of them waits for the next, and the last for the first
 pub turned_rule_has_a_cycle : told (waits_in_turn may_lock_turned) [] three_clients ≡ true ∷ true ∷ true ∷ []
@@ -220,7 +228,8 @@ abbrev ids_of_labels : List Thing → List (Option ℕ)
 ids_of_labels things = map (λ u. option_map (λ (v : Thing). v.id) (thing_labelled things u.label)) things
 
 -- the label of the second one names the first
-pub a_label_that_is_made_twice_names_the_first : ids_of_labels (at made_twice (Make 1 ∷ Make 1 ∷ [])).device.world.things ≡ Some 1000 ∷ Some 1000 ∷ []
+pub a_label_that_is_made_twice_names_the_first : ids_of_labels (at made_twice (Make 1 ∷ Make 1 ∷ [])).device.world.things ≡ Some 1000
+    ∷ Some 1000 ∷ []
 unfolding on_machines
 a_label_that_is_made_twice_names_the_first = refl
 

@@ -1,5 +1,6 @@
 -- What is left to do in all, as one number, and that each step but a vblank without GO lowers it.
-use Rattle.std.proofs.Common.{◌≡◌, ℕ, zero, suc, ◌+◌, ◌*◌, ◌-◌, ◌<◌, ◌^◌, ◌≤◌, List, ◌∷◌, length, Bool, true, false, Option, Some, None, refl, sym, ap, ◌∙◌, subst, arith, inl, inr, ◌⊎◌, ⊎_elim}
+use Rattle.std.proofs.Common.{◌≡◌, ℕ, zero, suc, ◌+◌, ◌*◌, ◌-◌, ◌<◌, ◌^◌, ◌≤◌, List, ◌∷◌, length, Bool, true, false, Option, Some, None}
+use Rattle.std.proofs.Common.{refl, sym, ap, ◌∙◌, subst, arith, inl, inr, ◌⊎◌, ⊎_elim}
 use Rattle.std.specs.Prelude.{if◌then◌else◌, is_some, nat_lt}
 use Rattle.std.specs.List.{range_with_len}
 use Rattle.std.proofs.Math.Nat.{mul-le-mul_right}
@@ -38,7 +39,8 @@ use Rattle.kms_laws.proofs.LeftInAll.{left_any, left_less}
 use Rattle.kms_laws.proofs.LockSteps.{lockable-has}
 use Rattle.kms_laws.proofs.Measure.{IsOwnStep, backoffs-below, contexts_left, own_step_less, phases-below, times-less}
 use Rattle.kms_laws.proofs.ShorterTails.{step_lowers, tails_short}
-use Rattle.kms_laws.proofs.Sizes.{IsThere, answered, begun_at, busy, command-there, ended_at, from_one-within, has_commands, length_of, place_of, sum-more, sum-most, sum-one}
+use Rattle.kms_laws.proofs.Sizes.{IsThere, answered, begun_at, busy, command-there, ended_at, from_one-within, has_commands, length_of}
+use Rattle.kms_laws.proofs.Sizes.{place_of, sum-more, sum-most, sum-one}
 use Rattle.kms_laws.proofs.SmallNumbers.{Counted, answered-busy, few_commands}
 use Rattle.kms_laws.proofs.Stalled.{legal-going}
 use Rattle.kms_laws.proofs.Steps.{flushed_at, flushed_holds, taking-none}
@@ -57,28 +59,36 @@ module _ (s : Script) (places : List (ℕ × Place)) (x : ℕ) (p : Place) where
   done_rises own c =
       ⊎_elim
       (λ (same : x ≡ c).
-      subst (λ z. done_at (place_of places z) ≤ done_at (place_of ((x, p) ∷ places) z)) same (let e = ap done_at (read_same (record { command = 1; doing = doing.Idle }) places x p) in omega (arith, e, own)))
+      subst (λ z. done_at (place_of places z) ≤ done_at (place_of ((x, p) ∷ places) z)) same
+      (let e = ap done_at (read_same (record { command = 1; doing = doing.Idle }) places x p) in omega (arith, e, own)))
       (λ ne. let e = ap done_at (read_other (record { command = 1; doing = doing.Idle }) places x c p ne) in omega (arith, e))
       (cases_eq x c)
 
   pub done-more : done_at (place_of places x) ≤ done_at p → all_done s places ≤ all_done s ((x, p) ∷ places)
-  done-more own = sum-more (λ c. done_at (place_of places c)) (λ c. done_at (place_of ((x, p) ∷ places) c)) 1 (length s.clients) (λ c a b. done_rises own c)
+  done-more own = sum-more (λ c. done_at (place_of places c)) (λ c. done_at (place_of ((x, p) ∷ places) c)) 1 (length s.clients)
+      (λ c a b. done_rises own c)
 
-  pub done-one : done_at (place_of places x) + 1 ≤ done_at p → 1 ≤ x → x < 1 + length s.clients → all_done s places + 1 ≤ all_done s ((x, p) ∷ places)
+  pub done-one : done_at (place_of places x) + 1 ≤ done_at p → 1 ≤ x → x < 1 + length s.clients → all_done s places + 1
+      ≤ all_done s ((x, p) ∷ places)
   done-one own low high =
-      let one : done_at (place_of places x) + 1 ≤ done_at (place_of ((x, p) ∷ places) x) = (let e = ap done_at (read_same (record { command = 1; doing = doing.Idle }) places x p) in omega (arith, e, own)) in
-      sum-one (λ c. done_at (place_of places c)) (λ c. done_at (place_of ((x, p) ∷ places) c)) x 1 (length s.clients) (λ c a b. done_rises (omega (arith, own)) c) one low high
+      let one : done_at (place_of places x) + 1 ≤ done_at (place_of ((x, p) ∷ places) x) =
+      (let e = ap done_at (read_same (record { command = 1; doing = doing.Idle }) places x p) in omega (arith, e, own)) in
+      sum-one (λ c. done_at (place_of places c)) (λ c. done_at (place_of ((x, p) ∷ places) c)) x 1 (length s.clients)
+      (λ c a b. done_rises (omega (arith, own)) c) one low high
 
 -- What a step does to what is left
 
 pub data Falls (s : Script) (m : Machine) (step : Step) (m2 : Machine) : Type 0 where
   -- a client begins a command, or has its answer, or returns
-  Answers : all_done s m.contexts.places + 1 ≤ all_done s m2.contexts.places → (length m2.device.commits ≡ length m.device.commits) ⊎ (length m2.device.commits ≡ suc (length m.device.commits)) → Falls s m step m2
+  Answers : all_done s m.contexts.places + 1 ≤ all_done s m2.contexts.places → (length m2.device.commits ≡ length m.device.commits)
+      ⊎ (length m2.device.commits ≡ suc (length m.device.commits)) → Falls s m step m2
   -- a context goes on
-  Locks : (client : ℕ) → all_done s m.contexts.places ≤ all_done s m2.contexts.places → m2.device ≡ m.device → m2.records ≡ m.records → m2.stalled ≡ m.stalled → IsOwnStep s m.contexts m2.contexts client → IsIn client (client_numbers s)
+  Locks : (client : ℕ) → all_done s m.contexts.places ≤ all_done s m2.contexts.places → m2.device ≡ m.device → m2.records ≡ m.records
+      → m2.stalled ≡ m.stalled → IsOwnStep s m.contexts m2.contexts client → IsIn client (client_numbers s)
       → Falls s m step m2
   -- a tail goes on
-  Tails : (k : ℕ) → k < length m.device.commits → commit_of_step m step ≡ Some k → m2.contexts ≡ m.contexts → m2.device.commits ≡ m.device.commits → m2.stalled ≡ m.stalled → Falls s m step m2
+  Tails : (k : ℕ) → k < length m.device.commits → commit_of_step m step ≡ Some k → m2.contexts ≡ m.contexts → m2.device.commits
+      ≡ m.device.commits → m2.stalled ≡ m.stalled → Falls s m step m2
   -- a dead history is ended
   Ends : m.stalled ≡ false → m2 ≡ record m { stalled = true } → Falls s m step m2
 
@@ -91,42 +101,54 @@ module _ (s : Script) (m : Machine) (n : ℕ) (C : Counted s n m) where
   lock-client client object h = go (request_at s m client) refl
     where
       go : (o : Option Request) → request_at s m client ≡ o → IsIn client (client_numbers s)
-      go None e = absurd (taking-none s m client (λ r. reaches s.topology m.device.world r object) e (and_parts (taking_at s m client (λ r. reaches s.topology m.device.world r object)) _ h).0)
+      go None e = absurd (taking-none s m client (λ r. reaches s.topology m.device.world r object) e
+          (and_parts (taking_at s m client (λ r. reaches s.topology m.device.world r object)) _ h).0)
       go (Some r) e = with_request s m client r e
 
   lock-is : (client object : ℕ) → may_lock s m client object ≡ true → is_taking (doing_at m client) ≡ true
   unfolding may_lock
-  lock-is client object h = (and_parts (is_taking (doing_at m client)) _ (and_parts (taking_at s m client (λ r. reaches s.topology m.device.world r object)) _ h).0).0
+  lock-is client object h = (and_parts (is_taking (doing_at m client)) _
+      (and_parts (taking_at s m client (λ r. reaches s.topology m.device.world r object)) _ h).0).0
 
-  lock-older : (client object holder : ℕ) → may_lock s m client object ≡ true → holder_at m object ≡ Some holder → nat_lt (ticket_of (doing_at m holder)) (ticket_of (doing_at m client)) ≡ true
+  lock-older : (client object holder : ℕ) → may_lock s m client object ≡ true → holder_at m object ≡ Some holder
+      → nat_lt (ticket_of (doing_at m holder)) (ticket_of (doing_at m client)) ≡ true
   unfolding may_lock
-  lock-older client object holder h held = sym (ap (is_free_or_older m (ticket_of (doing_at m client))) held) ∙ (and_parts (taking_at s m client (λ r. reaches s.topology m.device.world r object)) _ h).1
+  lock-older client object holder h held = sym (ap (is_free_or_older m (ticket_of (doing_at m client))) held) ∙
+      (and_parts (taking_at s m client (λ r. reaches s.topology m.device.world r object)) _ h).1
 
   ticket-client : (client : ℕ) → has_context (doing_at m client) ≡ true → IsIn client (client_numbers s)
   ticket-client client t = let q = C.facts.locks.atomic client t in with_request s m client q.request q.at
 
   -- a client that goes on with its context
-  same_done : (client : ℕ) (d : Doing) → (busy (doing_at m client) ≡ 1) × (answered (doing_at m client) ≡ 0) → (busy d ≡ 1) × (answered d ≡ 0)
-      → all_done s m.contexts.places ≤ all_done s ((client, record { command = (place_at m client).command; doing = d }) ∷ m.contexts.places)
+  same_done : (client : ℕ) (d : Doing) → (busy (doing_at m client) ≡ 1) × (answered (doing_at m client) ≡ 0) → (busy d ≡ 1)
+      × (answered d ≡ 0)
+      → all_done s m.contexts.places ≤ all_done s ((client, record { command = (place_at m client).command; doing = d })
+      ∷ m.contexts.places)
   same_done client d old new =
       done-more s m.contexts.places client (record { command = (place_at m client).command; doing = d })
       (let a = old.0 in let b = old.1 in let e = new.0 in let f = new.1 in omega (arith, a, b, e, f))
 
   -- an idle client, or one that takes locks, has its answer and goes on
   next_done : (client : ℕ) (c : Command) → command_at s m client ≡ Some c → busy (doing_at m client) ≤ 1 → answered (doing_at m client) ≡ 0
-      → all_done s m.contexts.places + 1 ≤ all_done s ((client, record { command = (place_at m client).command + 1; doing = doing.Idle }) ∷ m.contexts.places)
+      → all_done s m.contexts.places + 1 ≤ all_done s
+      ((client, record { command = (place_at m client).command + 1; doing = doing.Idle }) ∷ m.contexts.places)
   next_done client c e b a =
-      done-one s m.contexts.places client (record { command = (place_at m client).command + 1; doing = doing.Idle }) (omega (arith, b, a)) (there client c e).low (there client c e).high
+      done-one s m.contexts.places client (record { command = (place_at m client).command + 1; doing = doing.Idle }) (omega (arith, b, a))
+      (there client c e).low (there client c e).high
 
   idle_done : (client : ℕ) (c : Command) → command_at s m client ≡ Some c → is_idle (doing_at m client) ≡ true
-      → all_done s m.contexts.places + 1 ≤ all_done s ((client, record { command = (place_at m client).command + 1; doing = doing.Idle }) ∷ m.contexts.places)
+      → all_done s m.contexts.places + 1 ≤ all_done s
+      ((client, record { command = (place_at m client).command + 1; doing = doing.Idle }) ∷ m.contexts.places)
   idle_done client c e idle = let i = idle-busy (doing_at m client) idle in next_done client c e (let z = i.0 in omega (arith, z)) i.1
 
   taking_done : (client : ℕ) (c : Command) → command_at s m client ≡ Some c → is_taking (doing_at m client) ≡ true
-      → all_done s m.contexts.places + 1 ≤ all_done s ((client, record { command = (place_at m client).command + 1; doing = doing.Idle }) ∷ m.contexts.places)
-  taking_done client c e taking = let i = taking-busy (doing_at m client) taking in next_done client c e (let z = i.0 in omega (arith, z)) i.1
+      → all_done s m.contexts.places + 1 ≤ all_done s
+      ((client, record { command = (place_at m client).command + 1; doing = doing.Idle }) ∷ m.contexts.places)
+  taking_done client c e taking = let i = taking-busy (doing_at m client) taking
+      in next_done client c e (let z = i.0 in omega (arith, z)) i.1
 
-  return_done : (client k : ℕ) → returning_of (doing_at m client) ≡ Some k → all_done s m.contexts.places + 1 ≤ all_done s ((client, record { command = (place_at m client).command + 1; doing = doing.Idle }) ∷ m.contexts.places)
+  return_done : (client k : ℕ) → returning_of (doing_at m client) ≡ Some k → all_done s m.contexts.places + 1
+      ≤ all_done s ((client, record { command = (place_at m client).command + 1; doing = doing.Idle }) ∷ m.contexts.places)
   return_done client k e = by_client (from_one s.clients client) refl
     where
       r : (busy (doing_at m client) ≡ 1) × (answered (doing_at m client) ≡ 1)
@@ -135,12 +157,14 @@ module _ (s : Script) (m : Machine) (n : ℕ) (C : Counted s n m) where
       some : 1 ≤ has_commands s client
       some = let a = C.sizes.places_stand.bound client in let b = C.sizes.places_stand.low client in let z = r.0 in omega (arith, a, b, z)
 
-      by_client : (o : Option (List Command)) → from_one s.clients client ≡ o → all_done s m.contexts.places + 1 ≤ all_done s ((client, record { command = (place_at m client).command + 1; doing = doing.Idle }) ∷ m.contexts.places)
+      by_client : (o : Option (List Command)) → from_one s.clients client ≡ o → all_done s m.contexts.places + 1
+          ≤ all_done s ((client, record { command = (place_at m client).command + 1; doing = doing.Idle }) ∷ m.contexts.places)
       by_client None f = absurd (let z : has_commands s client ≡ 0 = ap length_of f in let l = some in omega (arith, z, l))
       by_client (Some commands) f =
           let w = from_one-within s.clients client commands f in
           let high = w.1 in
-          done-one s m.contexts.places client (record { command = (place_at m client).command + 1; doing = doing.Idle }) (let a = r.0 in let b = r.1 in omega (arith, a, b)) w.0 (omega (arith, high))
+          done-one s m.contexts.places client (record { command = (place_at m client).command + 1; doing = doing.Idle })
+          (let a = r.0 in let b = r.1 in omega (arith, a, b)) w.0 (omega (arith, high))
 
   claim-low : (k : ℕ) → may_claim s.topology m k ≡ true → k < length m.device.commits
   unfolding may_claim
@@ -151,19 +175,26 @@ module _ (s : Script) (m : Machine) (n : ℕ) (C : Counted s n m) where
     locks = record {
       begins = λ client c e atomic idle mv.
           let i = idle-busy (doing_at m client) idle in
-          Answers (done-one s m.contexts.places client (record { command = (place_at m client).command; doing = doing.Taking (record { 0 = m.contexts.tickets }) })
+          Answers (done-one s m.contexts.places client
+          (record { command = (place_at m client).command; doing = doing.Taking (record { 0 = m.contexts.tickets }) })
           (let a = i.0 in let b = i.1 in omega (arith, a, b)) (there client c e).low (there client c e).high) (inl refl);
       takes = λ client kind index is_lock lock free mv.
-          Locks client (omega arith) refl refl refl (take_step s m client (object_id kind index) (lockable-has s.topology kind index is_lock) (lock-is client (object_id kind index) lock) free) (lock-client client (object_id kind index) lock);
+          Locks client (omega arith) refl refl refl (take_step s m client (object_id kind index)
+          (lockable-has s.topology kind index is_lock) (lock-is client (object_id kind index) lock) free)
+          (lock-client client (object_id kind index) lock);
       meets = λ client kind index holder is_lock lock held mv.
-          Locks client (same_done client (doing.MustBackOff (record { 0 = ticket_of (doing_at m client) }) (obj_id (object_id kind index))) (taking-busy (doing_at m client) (lock-is client (object_id kind index) lock)) (refl, refl)) refl refl refl
-          (meet_step s m client (object_id kind index) holder (lock-is client (object_id kind index) lock) held (lock-older client (object_id kind index) holder lock held)) (lock-client client (object_id kind index) lock);
+          Locks client (same_done client (doing.MustBackOff (record { 0 = ticket_of (doing_at m client) }) (obj_id (object_id kind index)))
+          (taking-busy (doing_at m client) (lock-is client (object_id kind index) lock)) (refl, refl)) refl refl refl
+          (meet_step s m client (object_id kind index) holder (lock-is client (object_id kind index) lock) held
+          (lock-older client (object_id kind index) holder lock held)) (lock-client client (object_id kind index) lock);
       backs = λ client back mv.
           let step = back_step s m client back in
-          Locks client (same_done client (backed_off (doing_at m client)) (back-busy (doing_at m client) back).0 (back-busy (doing_at m client) back).1) refl refl refl step (ticket-client client step.ticket);
+          Locks client (same_done client (backed_off (doing_at m client)) (back-busy (doing_at m client) back).0
+          (back-busy (doing_at m client) back).1) refl refl refl step (ticket-client client step.ticket);
       relocks = λ client object asked free mv.
           let step = relock_step s m client object asked free in
-          Locks client (same_done client (doing.Taking (record { 0 = ticket_of (doing_at m client) })) (contended-busy (doing_at m client) object asked) (refl, refl)) refl refl refl step (ticket-client client step.ticket);
+          Locks client (same_done client (doing.Taking (record { 0 = ticket_of (doing_at m client) }))
+          (contended-busy (doing_at m client) object asked) (refl, refl)) refl refl refl step (ticket-client client step.ticket);
       returned = λ client k e clean mv. Answers (return_done client k e) (inl refl);
     };
     answers = record {
@@ -172,33 +203,51 @@ module _ (s : Script) (m : Machine) (n : ℕ) (C : Counted s n m) where
       swaps = λ client r e taking may b w eb ew mv.
           let on = taking_done client (command.Atomic r) e taking in
           let t = taking-busy (doing_at m client) taking in
-          let back : all_done s m.contexts.places + 1 ≤ all_done s ((client, record { command = (place_at m client).command; doing = doing.Returning (length m.device.commits) }) ∷ m.contexts.places) =
-          done-one s m.contexts.places client (record { command = (place_at m client).command; doing = doing.Returning (length m.device.commits) })
-          (let a = t.0 in let b2 = t.1 in omega (arith, a, b2)) (there client (command.Atomic r) e).low (there client (command.Atomic r) e).high in
-          by_two (λ b w. Falls s m (Swap client) (swapped_as s.topology b w m client r)) (Answers on (inr refl)) (Answers back (inr refl)) (Answers on (inr refl)) (Answers back (inr refl)) b w;
+          let back : all_done s m.contexts.places + 1
+          ≤ all_done s ((client, record { command = (place_at m client).command; doing = doing.Returning (length m.device.commits) })
+          ∷ m.contexts.places) =
+          done-one s m.contexts.places client (record
+          { command = (place_at m client).command; doing = doing.Returning (length m.device.commits) })
+          (let a = t.0 in let b2 = t.1 in omega (arith, a, b2)) (there client (command.Atomic r) e).low
+          (there client (command.Atomic r) e).high in
+          by_two (λ b w. Falls s m (Swap client) (swapped_as s.topology b w m client r)) (Answers on (inr refl)) (Answers back (inr refl))
+          (Answers on (inr refl)) (Answers back (inr refl)) b w;
       makes = λ client c e making idle b eb mv.
           let on = idle_done client c e idle in
-          by_bool (λ b. Falls s m (Make client) (made_as b m client (execute s.topology m.device.world client c))) (Answers on (inl refl)) (Answers on (inl refl)) b;
+          by_bool (λ b. Falls s m (Make client) (made_as b m client (execute s.topology m.device.world client c))) (Answers on (inl refl))
+          (Answers on (inl refl)) b;
       signalled = λ client c e is_signal idle o mv.
           let on = idle_done client c e idle in
-          by_fence (λ o. Falls s m (Signal client) (goes_on (signals (answers m client (execute s.topology m.device.world client c).reply) o) client)) (Answers on (inl refl)) (λ fence. Answers on (inl refl)) o;
+          by_fence (λ o. Falls s m (Signal client) (goes_on
+          (signals (answers m client (execute s.topology m.device.world client c).reply) o) client)) (Answers on (inl refl))
+          (λ fence. Answers on (inl refl)) o;
       read_none = λ client c e is_wait idle none mv. Answers (idle_done client c e idle) (inl refl);
       read_one = λ client c e is_wait idle event events some mv. Answers (idle_done client c e idle) (inl refl);
     };
     tails = record {
       claimed = λ k h mv. Tails k (claim-low k h) refl refl refl refl;
       written = λ k kind index found mv. Tails k (C.facts.holds.tail.marks.claimed k found.claimed) refl refl refl refl;
-      waits = λ k kind index written found mv. Tails k (flush_within (flushed_holds s m C.facts.holds k (object_id kind index) written found).tail k (object_id kind index) (pair_now k (object_id kind index) m.device.marks.flushed)) refl refl refl refl;
+      waits = λ k kind index written found mv. Tails k
+          (flush_within (flushed_holds s m C.facts.holds k (object_id kind index) written found).tail k (object_id kind index)
+          (pair_now k (object_id kind index) m.device.marks.flushed)) refl refl refl refl;
       flushed = λ k kind index written found b o eb eo mv.
-          let low = flush_within (flushed_holds s m C.facts.holds k (object_id kind index) written found).tail k (object_id kind index) (pair_now k (object_id kind index) m.device.marks.flushed) in
-          by_latch (λ b o. Falls s m (Flush k kind index) (latched_as s.topology b o (flushed_at m k (object_id kind index)) k (object_id kind index) (count_at m.device (object_id kind index))))
-          (Tails k low refl refl refl refl) (λ fence. Tails k low refl refl refl refl) (Tails k low refl refl refl refl) (λ fence. Tails k low refl refl refl refl) b o;
+          let low = flush_within (flushed_holds s m C.facts.holds k (object_id kind index) written found).tail k (object_id kind index)
+          (pair_now k (object_id kind index) m.device.marks.flushed) in
+          by_latch (λ b o. Falls s m (Flush k kind index)
+          (latched_as s.topology b o (flushed_at m k (object_id kind index)) k (object_id kind index)
+          (count_at m.device (object_id kind index))))
+          (Tails k low refl refl refl refl) (λ fence. Tails k low refl refl refl refl) (Tails k low refl refl refl refl)
+          (λ fence. Tails k low refl refl refl refl) b o;
       done = λ k a b c d mv. Tails k (C.facts.holds.tail.marks.claimed k a) refl refl refl refl;
       counted = λ kind index is none mv. absurd (false≢true (sym (ap is_some none) ∙ mv));
       blanked = λ kind index k is some b o eb eo mv.
-          let low = flush_within C.facts.holds.tail k (object_id kind index) (C.facts.holds.tail.marks.go_is k (object_id kind index) some).flushed in
-          by_latch (λ b o. Falls s m (Vblank kind index) (latched_as s.topology b o (counts_vblank m (object_id kind index)) k (object_id kind index) (count_at m.device (object_id kind index) + 1)))
-          (Tails k low some refl refl refl) (λ fence. Tails k low some refl refl refl) (Tails k low some refl refl refl) (λ fence. Tails k low some refl refl refl) b o;
+          let low = flush_within C.facts.holds.tail k (object_id kind index)
+          (C.facts.holds.tail.marks.go_is k (object_id kind index) some).flushed in
+          by_latch (λ b o. Falls s m (Vblank kind index)
+          (latched_as s.topology b o (counts_vblank m (object_id kind index)) k (object_id kind index)
+          (count_at m.device (object_id kind index) + 1)))
+          (Tails k low some refl refl refl) (λ fence. Tails k low some refl refl refl) (Tails k low some refl refl refl)
+          (λ fence. Tails k low some refl refl refl) b o;
       cleaned = λ k a b c mv. Tails k (C.facts.holds.tail.marks.claimed k (C.facts.holds.tail.marks.done k a).0) refl refl refl refl;
     };
     stalled = λ h mv. Ends (legal-going s m Stall h) refl;
@@ -264,16 +313,19 @@ module _ (s : Script) (formed : IsWellFormed s) (m : Machine) (n : ℕ) (C : Cou
   left-bound =
       let few = formed.few in
       let ended =
-      sum-most (λ c. ended_at (place_of m.contexts.places c)) 4097 1 (length s.clients) (λ c. let a = begun-bound c in let b = answered-busy (place_of m.contexts.places c).doing in omega (arith, a, b)) in
+      sum-most (λ c. ended_at (place_of m.contexts.places c)) 4097 1 (length s.clients)
+      (λ c. let a = begun-bound c in let b = answered-busy (place_of m.contexts.places c).doing in omega (arith, a, b)) in
       let commits : length m.device.commits ≤ 65536 = (let a = C.sizes.places_stand.commits_few in omega (arith, a, ended, few)) in
-      let tails = sum-most (tail_left s.topology m) 31 0 (length m.device.commits) (λ k. tails_short s.topology m k (few_objects s.topology formed.device)) in
+      let tails = sum-most (tail_left s.topology m) 31 0 (length m.device.commits)
+      (λ k. tails_short s.topology m k (few_objects s.topology formed.device)) in
       let done : done_left s m ≤ 196656 = omega (arith, few) in
       let weighed = mul-le-mul_right weight done in
       let c = contexts-bound in
       let d = one_unless-most m.stalled in
       omega (arith, commits, tails, weighed, c, d)
 
-module _ (s : Script) (formed : IsWellFormed s) (m : Machine) (n : ℕ) (C : Counted s n m) (step : Step) (l : legal s m step ≡ true) (m2 : Machine) (after : m2 ≡ next s m step) (n2 : ℕ) (counted-after : Counted s n2 m2) where
+module _ (s : Script) (formed : IsWellFormed s) (m : Machine) (n : ℕ) (C : Counted s n m) (step : Step) (l : legal s m step ≡ true)
+    (m2 : Machine) (after : m2 ≡ next s m step) (n2 : ℕ) (counted-after : Counted s n2 m2) where
   client-low : (client : ℕ) → IsIn client (client_numbers s) → 1 ≤ client
   client-low client is = range-above 1 (length s.clients) client is
 
@@ -295,18 +347,23 @@ module _ (s : Script) (formed : IsWellFormed s) (m : Machine) (n : ℕ) (C : Cou
   falls-lower (Locks client more device records stalled own is_client) =
       let le : done_left s m2 ≤ done_left s m = omega (arith, more) in
       let a = mul-le-mul_right weight le in
-      let b : all_left s.topology m2 ≡ all_left s.topology m = (λ i. sum (steps_left s.topology (device i).commits (device i).marks (records i).latches) 0 (length (device i).commits)) in
-      let c = own_step_less s m.contexts m2.contexts (length m.device.commits) client C.facts.locks own is_client (most_tickets s) (ticket-bound s formed m n C client own.ticket) (few_objects s.topology formed.device) formed.few (client-low client is_client) (client-high client is_client) in
+      let b : all_left s.topology m2 ≡ all_left s.topology m =
+      (λ i. sum (steps_left s.topology (device i).commits (device i).marks (records i).latches) 0 (length (device i).commits)) in
+      let c = own_step_less s m.contexts m2.contexts (length m.device.commits) client C.facts.locks own is_client (most_tickets s)
+      (ticket-bound s formed m n C client own.ticket) (few_objects s.topology formed.device) formed.few (client-low client is_client)
+      (client-high client is_client) in
       let d = ap one_unless stalled in
       omega (arith, a, b, c, d)
   falls-lower (Tails k lt of_k contexts commits stalled) =
-      let a : done_left s m2 * weight ≡ done_left s m * weight = ap (λ (x : Contexts). (length s.clients * 12291 - all_done s x.places) * weight) contexts in
+      let a : done_left s m2 * weight ≡ done_left s m
+      * weight = ap (λ (x : Contexts). (length s.clients * 12291 - all_done s x.places) * weight) contexts in
       let b = left_less s m step m2 lowers k lt of_k (ap length commits) in
       let c = ap (contexts_left s (most_tickets s)) contexts in
       let d = ap one_unless stalled in
       omega (arith, a, b, c, d)
   falls-lower (Ends going same) =
-      let a : done_left s m2 * weight + (all_left s.topology m2 + contexts_left s (most_tickets s) m2.contexts) ≡ done_left s m * weight + (all_left s.topology m + contexts_left s (most_tickets s) m.contexts) =
+      let a : done_left s m2 * weight + (all_left s.topology m2 + contexts_left s (most_tickets s) m2.contexts) ≡ done_left s m * weight
+      + (all_left s.topology m + contexts_left s (most_tickets s) m.contexts) =
       ap (λ (z : Machine). done_left s z * weight + (all_left s.topology z + contexts_left s (most_tickets s) z.contexts)) same in
       let b : one_unless m2.stalled ≡ 0 = ap (λ (z : Machine). one_unless z.stalled) same in
       let c : one_unless m.stalled ≡ 1 = ap one_unless going in

@@ -11,7 +11,8 @@ use Rattle.kms_model.specs.declared.pictures.Picture.{Picture}
 use Rattle.kms_model.specs.declared.pictures.Picture.TheVariants.{Off, On}
 use Rattle.kms_model.specs.declared.worlds.Thing.{Thing}
 use Rattle.kms_model.specs.Device.World.{thing_with_id}
-use Rattle.kms_model.specs.Frames.FrameBytes.{black, buffer_id_in, channels, colour_of, composed, frame_bytes, is_covered, layer_colour, mixed, pattern_word, source_at, through, word_of}
+use Rattle.kms_model.specs.Frames.FrameBytes.{black, buffer_id_in, channels, colour_of, composed, frame_bytes, is_covered, layer_colour}
+use Rattle.kms_model.specs.Frames.FrameBytes.{mixed, pattern_word, source_at, through, word_of}
 use Rattle.kms_model.specs.Frames.Images.{image_of, seen_in}
 use Rattle.kms_model.specs.Frames.Shown.{CanBeShown, EachCanBeShown, HasWords}
 use Rattle.kms_model.specs.Script.Words.{◌>>=◌}
@@ -44,7 +45,8 @@ module _ (old new : List Thing) (stay : Stay old new) where
 
   of_framebuffer : (x y fb : ℕ) (seen : Seen) (o : Option Thing) → thing_with_id old fb ≡ o
       → (o >>= (λ f. seen_of old (buffer_id_in f.content))) ≡ Some seen
-      → (thing_with_id new fb >>= (λ f. word_from new x y (buffer_id_in f.content))) ≡ (thing_with_id old fb >>= (λ f. word_from old x y (buffer_id_in f.content)))
+      → (thing_with_id new fb >>= (λ f. word_from new x y (buffer_id_in f.content)))
+      ≡ (thing_with_id old fb >>= (λ f. word_from old x y (buffer_id_in f.content)))
   of_framebuffer x y fb seen None found e = absurd cc
   of_framebuffer x y fb seen (Some f) found e =
       let k = stay fb f found in
@@ -60,7 +62,8 @@ module _ (old new : List Thing) (stay : Stay old new) where
       ap (λ w. if is_covered l.visible x y then (w >>= (λ word. Some (colour_of l.fb.format word))) else None)
       (word-stays (source_at l.src.x l.src.w l.dst.x l.dst.w x) (source_at l.src.y l.src.h l.dst.y l.dst.h y) l.fb.id has.seen has.found)
 
-  composed-stays : (m : Mode) (ls : List Layer) → All (CanBeShown old m) ls → (x y : ℕ) (under : Colour) → composed (word_of new) x y under ls ≡ composed (word_of old) x y under ls
+  composed-stays : (m : Mode) (ls : List Layer) → All (CanBeShown old m) ls → (x y : ℕ) (under : Colour)
+      → composed (word_of new) x y under ls ≡ composed (word_of old) x y under ls
   composed-stays m [] all x y under = refl
   composed-stays m (l ∷ ls) all x y under =
       ap (λ c. composed (word_of new) x y (mixed l under c) ls) (layer-stays l (All-head (CanBeShown old m) l ls all).words x y)
@@ -71,4 +74,5 @@ module _ (old new : List Thing) (stay : Stay old new) where
   pub frame-stays : (p : Picture) → EachCanBeShown old p → frame_bytes new p ≡ frame_bytes old p
   frame-stays Off can = refl
   frame-stays (On p) can = λ i.
-      flat_map (λ y. flat_map (λ x. channels (through p.gamma (composed-stays p.mode p.layers can x y black i))) (range_with_len 0 p.mode.hdisplay)) (range_with_len 0 p.mode.vdisplay)
+      flat_map (λ y. flat_map (λ x. channels (through p.gamma (composed-stays p.mode p.layers can x y black i)))
+      (range_with_len 0 p.mode.hdisplay)) (range_with_len 0 p.mode.vdisplay)

@@ -1,5 +1,6 @@
 -- The headline, from what holds of each machine that a history reaches.
-use Rattle.std.proofs.Common.{◌≡◌, ℕ, zero, suc, ◌+◌, ◌<◌, ◌≤◌, List, [], ◌∷◌, ◌++◌, length, map, Bool, true, false, ◌==◌, refl, sym, ap, ◌∙◌, subst, arith, inl, inr, ⊎_elim}
+use Rattle.std.proofs.Common.{◌≡◌, ℕ, zero, suc, ◌+◌, ◌<◌, ◌≤◌, List, [], ◌∷◌, ◌++◌, length, map, Bool, true, false, ◌==◌, refl, sym, ap}
+use Rattle.std.proofs.Common.{◌∙◌, subst, arith, inl, inr, ⊎_elim}
 use Rattle.std.specs.Prelude.{if◌then◌else◌, filter, reverse}
 use Rattle.std.specs.List.{All, AllByRecursion, list_all, range_with_len}
 use Rattle.std.proofs.lemmas.Bool.{and_parts, cases_Bool, cases_lt, eq-eqb, eqb-true, ne_eqb, false_from_ne_true}
@@ -37,10 +38,12 @@ same_ids : (a b : ℕ) → (object_id Crtc a == object_id Crtc b) ≡ (a == b)
 same_ids a b =
     ⊎_elim
     (λ e. eq-eqb (object_id Crtc a) (object_id Crtc b) (ap (object_id Crtc) (eqb-true a b e)) ∙ sym e)
-    (λ n. ne_eqb (object_id Crtc a) (object_id Crtc b) (λ (same : 100 + a ≡ 100 + b). both_bools (a == b) (eq-eqb a b (omega arith)) n) ∙ sym n)
+    (λ n. ne_eqb (object_id Crtc a) (object_id Crtc b) (λ (same : 100 + a ≡ 100 + b). both_bools (a == b) (eq-eqb a b (omega arith)) n) ∙
+    sym n)
     (cases_Bool (a == b))
 
-latched_more : (l : Latch) (ls : List Latch) (c : ℕ) → map pair_of_latch (filter (λ l. l.crtc == c) (reverse (l ∷ ls))) ≡ map pair_of_latch (filter (λ l. l.crtc == c) (reverse ls)) ++ (if l.crtc == c then pair_of_latch l ∷ [] else [])
+latched_more : (l : Latch) (ls : List Latch) (c : ℕ) → map pair_of_latch (filter (λ l. l.crtc == c) (reverse (l ∷ ls)))
+    ≡ map pair_of_latch (filter (λ l. l.crtc == c) (reverse ls)) ++ (if l.crtc == c then pair_of_latch l ∷ [] else [])
 latched_more l ls c =
     ap (λ xs. map pair_of_latch (filter (λ l. l.crtc == c) xs)) (reverse_more l ls)
     ∙ ap (map pair_of_latch) (filter-append (λ l. l.crtc == c) (reverse ls) (l ∷ []))
@@ -51,14 +54,16 @@ latched_more l ls c =
     one true = refl
     one false = refl
 
-latched-at : (ls : List Latch) (c : ℕ) → map pair_of_latch (filter (λ l. l.crtc == c) (reverse ls)) ≡ reverse (latched_at ls (object_id Crtc c))
+latched-at : (ls : List Latch) (c : ℕ) → map pair_of_latch (filter (λ l. l.crtc == c) (reverse ls))
+    ≡ reverse (latched_at ls (object_id Crtc c))
 unfolding latched_at pair_of_latch
 latched-at [] c = refl
 latched-at (l ∷ ls) c =
     latched_more l ls c
     ∙ ap (λ xs. xs ++ (if l.crtc == c then commit_picture l.commit l.picture ∷ [] else [])) (latched-at ls c)
     ∙ reverse_or (l.crtc == c) (commit_picture l.commit l.picture) (latched_at ls (object_id Crtc c))
-    ∙ ap (λ b. reverse (if b then commit_picture l.commit l.picture ∷ latched_at ls (object_id Crtc c) else latched_at ls (object_id Crtc c))) (sym (same_ids l.crtc c))
+    ∙ ap (λ b. reverse (if b then commit_picture l.commit l.picture ∷ latched_at ls (object_id Crtc c)
+    else latched_at ls (object_id Crtc c))) (sym (same_ids l.crtc c))
 
 -- what is shown so far is the end of what is shown in all, the newest first
 shown_more : (t : Topology) (cs : List Commit) (c a b : ℕ) → a ≤ b → (new : List CommitPicture) × (new ++ shown t cs c a ≡ shown t cs c b)
@@ -66,16 +71,19 @@ unfolding shown
 shown_more t cs c a zero l = let e : a ≡ 0 = omega arith in ([], ap (shown t cs c) e)
 shown_more t cs c a (suc b) l =
     ⊎_elim
-    (λ (lt : a < suc b). let r = shown_more t cs c a b (omega arith) in go (commit_names t cs b c) (commit_picture b (picture_at t cs (suc b) c)) r.0 r.1)
+    (λ (lt : a < suc b). let r = shown_more t cs c a b (omega arith)
+    in go (commit_names t cs b c) (commit_picture b (picture_at t cs (suc b) c)) r.0 r.1)
     (λ ge. let e : a ≡ suc b = omega arith in ([], ap (shown t cs c) e))
     (cases_lt a (suc b))
   where
-    go : (nm : Bool) (y : CommitPicture) (new : List CommitPicture) → new ++ shown t cs c a ≡ shown t cs c b → (new2 : List CommitPicture) × (new2 ++ shown t cs c a ≡ (if nm then y ∷ shown t cs c b else shown t cs c b))
+    go : (nm : Bool) (y : CommitPicture) (new : List CommitPicture) → new ++ shown t cs c a ≡ shown t cs c b → (new2 : List CommitPicture)
+        × (new2 ++ shown t cs c a ≡ (if nm then y ∷ shown t cs c b else shown t cs c b))
     go true y new e = (y ∷ new, ap (λ z. y ∷ z) e)
     go false y new e = (new, e)
 
 in_order : (s : Script) (m : Machine) → Holds s m → (crtc : ℕ) → crtc < s.topology.crtcs
-    → IsPrefixOf (map pair_of_latch (filter (λ l. l.crtc == crtc) (reverse m.records.latches))) (map pair_of (show s (reverse m.records.journal) (object_id Crtc crtc)))
+    → IsPrefixOf (map pair_of_latch (filter (λ l. l.crtc == crtc) (reverse m.records.latches)))
+    (map pair_of (show s (reverse m.records.journal) (object_id Crtc crtc)))
 in_order s m H crtc l =
     let c = object_id Crtc crtc in
     let e = H.tail.shows c in
@@ -97,7 +105,8 @@ range-in from (suc n) k l m =
     (λ ge. inl (omega arith))
     (cases_lt from k)
 
-all_clean : (m : Machine) → list_all (is_cleaned m.device) (commit_numbers m) ≡ true → (k : ℕ) → k < length m.device.commits → has_number m.device.marks.cleaned k ≡ true
+all_clean : (m : Machine) → list_all (is_cleaned m.device) (commit_numbers m) ≡ true → (k : ℕ) → k < length m.device.commits
+    → has_number m.device.marks.cleaned k ≡ true
 all_clean m clean k l =
     list_all-at (is_cleaned m.device) (commit_numbers m) k clean (range-in 0 (length m.device.commits) k (omega arith) (omega arith))
 
@@ -105,8 +114,10 @@ drained_clean : (s : Script) (m : Machine) → is_drained s m ≡ true → list_
 unfolding is_drained
 drained_clean s m drained = (and_parts (list_all (is_at_end s m) (client_numbers s)) _ drained).1
 
-all_of_them : (s : Script) (m : Machine) → Holds s m → list_all (is_cleaned m.device) (commit_numbers m) ≡ true → (crtc : ℕ) → crtc < s.topology.crtcs
-    → map pair_of_latch (filter (λ l. l.crtc == crtc) (reverse m.records.latches)) ≡ map pair_of (show s (reverse m.records.journal) (object_id Crtc crtc))
+all_of_them : (s : Script) (m : Machine) → Holds s m → list_all (is_cleaned m.device) (commit_numbers m) ≡ true → (crtc : ℕ) → crtc
+    < s.topology.crtcs
+    → map pair_of_latch (filter (λ l. l.crtc == crtc) (reverse m.records.latches))
+    ≡ map pair_of (show s (reverse m.records.journal) (object_id Crtc crtc))
 all_of_them s m H clean crtc l =
     let c = object_id Crtc crtc in
     let i : IsIn c (ids_of s.topology Crtc) = ids-has s.topology Crtc crtc l in
@@ -119,7 +130,8 @@ all_of_them s m H clean crtc l =
 
 all_reversed : {A : Type 0} (P : A → Type 0) (xs : List A) → AllByRecursion P xs → All P (reverse xs)
 all_reversed P [] all = λ k d l. absurd (omega arith)
-all_reversed P (x ∷ xs) all = subst (All P) (sym (reverse_more x xs)) (All-append P (reverse xs) (x ∷ []) (all_reversed P xs all.1) (one all.0))
+all_reversed P (x ∷ xs) all = subst (All P) (sym (reverse_more x xs))
+    (All-append P (reverse xs) (x ∷ []) (all_reversed P xs all.1) (one all.0))
   where
     one : P x → All P (x ∷ [])
     one holds zero d l = holds
@@ -142,7 +154,8 @@ headline s h plain is =
       verdicts = all_reversed (StandsAtPlace s (history_journal s h)) (at s h).records.replies H.replies;
     }
 
-pub all_shown : (s : Script) (h : List Step) → IsPlainScript s → is_history s h ≡ true → list_all (is_cleaned (at s h).device) (commit_numbers (at s h)) ≡ true
+pub all_shown : (s : Script) (h : List Step) → IsPlainScript s → is_history s h ≡ true
+    → list_all (is_cleaned (at s h).device) (commit_numbers (at s h)) ≡ true
     → (crtc : ℕ) → crtc < s.topology.crtcs → latched_pictures s h crtc ≡ shown_pictures s (history_journal s h) crtc
 unfolding pair_of_latch
 all_shown s h plain is clean crtc l = all_of_them s (at s h) (history_kept s h plain is) clean crtc l

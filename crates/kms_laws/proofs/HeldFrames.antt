@@ -34,10 +34,12 @@ use Rattle.kms_model.proofs.Items.{IsIn, ids-has, list_all-at}
 use Rattle.kms_model.proofs.MaskLemmas.{same_masks}
 use Rattle.kms_model.proofs.SeenLemmas.{gamma-seen, mode-seen}
 use Rattle.kms_model.proofs.SoundKept.{accepted-parts, sound-apply}
-use Rattle.kms_model.proofs.TouchedLemmas.{HasFewObjects, IsRequestAt, crtc_at-unset, few_objects, gamma_at-unset, mode_at-unset, routed-unnamed}
+use Rattle.kms_model.proofs.TouchedLemmas.{HasFewObjects, IsRequestAt, crtc_at-unset, few_objects, gamma_at-unset, mode_at-unset}
+use Rattle.kms_model.proofs.TouchedLemmas.{routed-unnamed}
 use Rattle.kms_model.proofs.Facts.{implied}
 use Rattle.kms_laws.proofs.Basics.{in_either}
-use Rattle.kms_laws.proofs.EachStep.{Carries, IsSwap, by_bool, by_fence, by_two, each_step, locks_leave, made_as, swap-found, swapped_as, tails_leave}
+use Rattle.kms_laws.proofs.EachStep.{Carries, IsSwap, by_bool, by_fence, by_two, each_step, locks_leave, made_as, swap-found, swapped_as}
+use Rattle.kms_laws.proofs.EachStep.{tails_leave}
 use Rattle.kms_laws.proofs.Executed.{IsLike, execute_follows, follows-out_fences, plane_like}
 use Rattle.kms_laws.proofs.LockSteps.{HasLocks}
 use Rattle.kms_laws.proofs.NeverStuck.{history_facts}
@@ -62,7 +64,8 @@ state_with active mode gamma planes conns = record { active = active; mode = mod
 
 -- What a request does not touch
 
-module _ (t : Topology) (w : World) (r : Request) (at : IsRequestAt t w r) (o : ℕ) (is_there : IsIn o (lockable t)) (untouched : touches t w r o ≡ false) where
+module _ (t : Topology) (w : World) (r : Request) (at : IsRequestAt t w r) (o : ℕ) (is_there : IsIn o (lockable t))
+    (untouched : touches t w r o ≡ false) where
   few : HasFewObjects t
   few = few_objects t at.device
 
@@ -73,19 +76,23 @@ module _ (t : Topology) (w : World) (r : Request) (at : IsRequestAt t w r) (o : 
   crtc_state_frame : kind_of o ≡ Crtc → crtc_state_at t w.things (after w r) o ≡ crtc_state_at t w.things w.values o
   crtc_state_frame e =
       let parts = or_parts (sets r.assigns o) (names w.values (after w r) r.assigns o) (of_its_kind Crtc e) in
-      let active : is_active (after w r) o ≡ is_active w.values o = ap (λ n. not (int_eq n (pos 0))) (value-apply_unset w.things w.values r.assigns o ACTIVE parts.0) in
+      let active : is_active (after w r) o ≡ is_active w.values o = ap (λ n. not (int_eq n (pos 0)))
+      (value-apply_unset w.things w.values r.assigns o ACTIVE parts.0) in
       let mode = mode_at-unset w r o parts.0 in
       let gamma = gamma_at-unset w r o parts.0 in
-      let planes = same_masks (λ i. crtc_at (after w r) (object_id Plane i) == o) (λ i. crtc_at w.values (object_id Plane i) == o) (count_of t Plane)
+      let planes = same_masks (λ i. crtc_at (after w r) (object_id Plane i) == o) (λ i. crtc_at w.values (object_id Plane i) == o)
+      (count_of t Plane)
       (λ i within. routed-unnamed t w r Plane o (object_id Plane i) at refl (ids-has t Plane i within) parts.1) in
-      let conns = same_masks (λ i. crtc_at (after w r) (object_id Conn i) == o) (λ i. crtc_at w.values (object_id Conn i) == o) (count_of t Conn)
+      let conns = same_masks (λ i. crtc_at (after w r) (object_id Conn i) == o) (λ i. crtc_at w.values (object_id Conn i) == o)
+      (count_of t Conn)
       (λ i within. routed-unnamed t w r Conn o (object_id Conn i) at refl (ids-has t Conn i within) parts.1) in
       λ i. state_with (active i) (mode i) (gamma i) (planes i) (conns i)
 
   pub untouched_same : (n : ℕ) → HasSameState t w (record w { values = after w r; commits = n }) o
   untouched_same n = record {
     plane = λ e. plane_frame t w r at o (in_kind t Plane o few is_there e) untouched;
-    connector = λ e. crtc_at-unset w r o (or_parts (sets r.assigns o) (is_affected t w.things w.values (after w r) o) (of_its_kind Conn e)).0;
+    connector = λ e. crtc_at-unset w r o (or_parts (sets r.assigns o) (is_affected t w.things w.values (after w r) o)
+        (of_its_kind Conn e)).0;
     crtc = crtc_state_frame;
   }
 
@@ -99,7 +106,8 @@ like_same t w v o few is_there like = record {
       ap (λ values. crtc_state_at t v.things values o) like.values
       ∙ (let mode = mode-seen t w.things v.things w.values o like.alike (in_kind t Crtc o few is_there e) in
       let gamma = gamma-seen t w.things v.things w.values o like.alike (in_kind t Crtc o few is_there e) in
-      sym (λ i. state_with (is_active w.values o) (mode i) (gamma i) (crtc_state_at t w.things w.values o).planes (crtc_state_at t w.things w.values o).conns));
+      sym (λ i. state_with (is_active w.values o) (mode i) (gamma i) (crtc_state_at t w.things w.values o).planes
+      (crtc_state_at t w.things w.values o).conns));
 }
 
 same_trans : (t : Topology) (w v u : World) (o : ℕ) → HasSameState t w v o → HasSameState t v u o → HasSameState t w u o
@@ -114,7 +122,8 @@ same_self t w o = record { plane = λ e. refl; connector = λ e. refl; crtc = λ
 
 -- Steps
 
-module _ (s : Script) (m : Machine) (plain : IsPlainScript s) (H : Holds s m) (L : HasLocks s m) (holder o : ℕ) (held : holds m holder o ≡ true) where
+module _ (s : Script) (m : Machine) (plain : IsPlainScript s) (H : Holds s m) (L : HasLocks s m) (holder o : ℕ)
+    (held : holds m holder o ≡ true) where
   abbrev Of : Machine → Type 0
   Of m2 = HasSameState s.topology m.device.world m2.device.world o
 
@@ -127,29 +136,34 @@ module _ (s : Script) (m : Machine) (plain : IsPlainScript s) (H : Holds s m) (L
   as_it_was : HasSameState s.topology m.device.world m.device.world o
   as_it_was = same_self s.topology m.device.world o
 
-  make_same : (client : ℕ) (c : Command) → command_at s m client ≡ Some c → is_making c ≡ true → HasSameState s.topology m.device.world (execute s.topology m.device.world client c).world o
+  make_same : (client : ℕ) (c : Command) → command_at s m client ≡ Some c → is_making c ≡ true
+      → HasSameState s.topology m.device.world (execute s.topology m.device.world client c).world o
   make_same client c e making =
       like_same s.topology m.device.world (execute s.topology m.device.world client c).world o few_here is_there
       (execute_follows s.topology m.device.world client c H.present.lawful H.present.kept (plain.modes _ c e) (not_atomic c making)).like
 
   -- a request of another client that holds what it touches does not touch the object
-  not_touched : (client : ℕ) (r : Request) → Some client ≢ Some holder → holds_touched s.topology m client r ≡ true → touches s.topology m.device.world r o ≡ false
+  not_touched : (client : ℕ) (r : Request) → Some client ≢ Some holder → holds_touched s.topology m client r ≡ true
+      → touches s.topology m.device.world r o ≡ false
   unfolding holds_touched
   not_touched client r others h = by_test (touches s.topology m.device.world r o) refl
     where
       each : (not (touches s.topology m.device.world r o) || holds m client o) ≡ true
-      each = list_all-at (λ object. not (touches s.topology m.device.world r object) || holds m client object) (lockable s.topology) o h is_there
+      each = list_all-at (λ object. not (touches s.topology m.device.world r object) || holds m client object) (lockable s.topology) o h
+          is_there
 
       by_test : (b : Bool) → touches s.topology m.device.world r o ≡ b → touches s.topology m.device.world r o ≡ false
       by_test false e = e
       by_test true e = absurd (others (sym (value-is client (holder_at m o) (implied _ _ each e)) ∙ value-is holder (holder_at m o) held))
 
-  swap_same : (client : ℕ) (r : Request) → Some client ≢ Some holder → IsSwap s.topology m client r → HasSameState s.topology m.device.world (committed s.topology m.device.world client r).world o
+  swap_same : (client : ℕ) (r : Request) → Some client ≢ Some holder → IsSwap s.topology m client r
+      → HasSameState s.topology m.device.world (committed s.topology m.device.world client r).world o
   swap_same client r others found =
       let w1 : World = record m.device.world { values = after m.device.world r; commits = m.device.world.commits + 1 } in
       let e = (accepted-parts s.topology m.device.world r found.accepted).first_none in
       let at : IsRequestAt s.topology m.device.world r = record { device = plain.device; sound = H.present.lawful.sound; early = e } in
-      let follows = follows-out_fences s.topology client r.assigns w1 (ids_of s.topology Crtc) (sound-apply s.topology m.device.world r (m.device.world.commits + 1) H.present.lawful found.accepted) H.present.kept in
+      let follows = follows-out_fences s.topology client r.assigns w1 (ids_of s.topology Crtc)
+      (sound-apply s.topology m.device.world r (m.device.world.commits + 1) H.present.lawful found.accepted) H.present.kept in
       same_trans s.topology m.device.world w1 (committed s.topology m.device.world client r).world o
       (untouched_same s.topology m.device.world r at o is_there (not_touched client r others found.held) (m.device.world.commits + 1))
       (like_same s.topology w1 (committed s.topology m.device.world client r).world o few_here is_there follows.like)
@@ -161,21 +175,27 @@ module _ (s : Script) (m : Machine) (plain : IsPlainScript s) (H : Holds s m) (L
       refuses = λ client r e taking may others. as_it_was;
       tests = λ client r e taking may others. as_it_was;
       swaps = λ client r e taking may b w eb ew others.
-          let now = swap_same client r others (swap-found s.topology m client r may) in by_two (λ b w. Of (swapped_as s.topology b w m client r)) now now now now b w;
+          let now = swap_same client r others (swap-found s.topology m client r may)
+          in by_two (λ b w. Of (swapped_as s.topology b w m client r)) now now now now b w;
       makes = λ client c e making idle b eb others.
-          let now = make_same client c e making in by_bool (λ b. Of (made_as b m client (execute s.topology m.device.world client c))) now now b;
-      signalled = λ client c e is_signal idle q others. by_fence (λ q. Of (goes_on (signals (answers m client (execute s.topology m.device.world client c).reply) q) client)) as_it_was (λ fence. as_it_was) q;
+          let now = make_same client c e making in by_bool (λ b. Of (made_as b m client (execute s.topology m.device.world client c))) now
+          now b;
+      signalled = λ client c e is_signal idle q others. by_fence
+          (λ q. Of (goes_on (signals (answers m client (execute s.topology m.device.world client c).reply) q) client)) as_it_was
+          (λ fence. as_it_was) q;
       read_none = λ client c e is_wait idle none others. as_it_was;
       read_one = λ client c e is_wait idle event events some others. as_it_was;
     };
-    tails = tails_leave s m (λ step left. client_of_step step ≢ Some holder → HasSameState s.topology m.device.world left.world o) (λ step others. as_it_was);
+    tails = tails_leave s m (λ step left. client_of_step step ≢ Some holder → HasSameState s.topology m.device.world left.world o)
+        (λ step others. as_it_was);
     stalled = λ h others. as_it_was;
   }
 
   pub held_same : (step : Step) → client_of_step step ≢ Some holder → legal s m step ≡ true → Of (next s m step)
   held_same step others h = each_step s m (λ step m2. client_of_step step ≢ Some holder → Of m2) carries_same step h others
 
-pub held_objects_framed : (s : Script) (h : List Step) → IsPlainScript s → is_history s h ≡ true → (step : Step) → legal s (at s h) step ≡ true → (client object : ℕ) → holds (at s h) client object ≡ true
+pub held_objects_framed : (s : Script) (h : List Step) → IsPlainScript s → is_history s h ≡ true → (step : Step) → legal s (at s h) step
+    ≡ true → (client object : ℕ) → holds (at s h) client object ≡ true
     → client_of_step step ≢ Some client → HasSameState s.topology (at s h).device.world (next s (at s h) step).device.world object
 held_objects_framed s h plain is step legal_step client object held others =
     let F = history_facts s h plain is in held_same s (at s h) plain F.holds F.locks client object held step others legal_step

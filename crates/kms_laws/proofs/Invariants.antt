@@ -10,8 +10,10 @@ use Rattle.kms_model.specs.declared.states.PlaneState.{PlaneState}
 use Rattle.kms_model.specs.Device.Objects.{object_id, ids_of}
 use Rattle.kms_model.specs.Frames.Pictures.{layers_with, shown_with}
 use Rattle.kms_model.specs.Headline.{CommitPicture}
-use Rattle.kms_model.specs.Machine.Commits.{commit_names, commit_touches, commit_concerns, has_latched, has_number, has_pair, lockable, registered, new_plane, new_crtc, new_connector}
-use Rattle.kms_model.specs.Machine.Registers.{PlaneWords, CrtcWords, Registers, crtc_words, first_crtc_words, first_plane_words, gamma_in_words, mode_in_words, plane_in, plane_register, plane_words, crtc_register, read}
+use Rattle.kms_model.specs.Machine.Commits.{commit_names, commit_touches, commit_concerns, has_latched, has_number, has_pair, lockable}
+use Rattle.kms_model.specs.Machine.Commits.{registered, new_plane, new_crtc, new_connector}
+use Rattle.kms_model.specs.Machine.Registers.{PlaneWords, CrtcWords, Registers, crtc_words, first_crtc_words, first_plane_words}
+use Rattle.kms_model.specs.Machine.Registers.{gamma_in_words, mode_in_words, plane_in, plane_register, plane_words, crtc_register, read}
 use Rattle.kms_model.specs.Machine.State.{Commit, Marks}
 use Rattle.kms_model.proofs.Items.{IsIn}
 use Rattle.kms_model.proofs.TouchedLemmas.{HasFewObjects}
@@ -29,7 +31,8 @@ crtc_after t cs (suc k) c = crtc_words (new_connector t cs k c) (new_crtc t cs k
 -- the picture of a CRTC with words, and planes with states
 abbrev pub picture_in_words : Topology → CrtcWords → (ℕ → PlaneState) → ℕ → Picture
 picture_in_words t w state c =
-    if not (w.active == 0) then On (shown_with (mode_in_words w) w.conn (gamma_in_words w) (layers_with state (mode_in_words w) c (ids_of t Plane))) else Off
+    if not (w.active == 0) then On (shown_with (mode_in_words w) w.conn (gamma_in_words w)
+    (layers_with state (mode_in_words w) c (ids_of t Plane))) else Off
 
 abbrev pub picture_at : Topology → List Commit → ℕ → ℕ → Picture
 picture_at t cs m c = picture_in_words t (crtc_after t cs m c) (λ p. plane_in (plane_after t cs m p)) c
@@ -51,8 +54,10 @@ latched_at (l ∷ ls) c = if object_id Crtc l.crtc == c then commit_picture l.co
 
 -- a commit leaves the words of what it does not touch, and names each CRTC that a plane which it touches is on before or after
 pub record CommitsStand (t : Topology) (cs : List Commit) : Type 0 where
-  pub plane_frame : (k p : ℕ) → k < length cs → IsIn p (ids_of t Plane) → commit_touches t cs k p ≡ false → plane_after t cs (suc k) p ≡ plane_after t cs k p
-  pub crtc_frame : (k c : ℕ) → k < length cs → IsIn c (ids_of t Crtc) → commit_names t cs k c ≡ false → crtc_after t cs (suc k) c ≡ crtc_after t cs k c
+  pub plane_frame : (k p : ℕ) → k < length cs → IsIn p (ids_of t Plane) → commit_touches t cs k p ≡ false → plane_after t cs (suc k) p
+      ≡ plane_after t cs k p
+  pub crtc_frame : (k c : ℕ) → k < length cs → IsIn c (ids_of t Crtc) → commit_names t cs k c ≡ false → crtc_after t cs (suc k) c
+      ≡ crtc_after t cs k c
   pub moved : (k p c : ℕ) → k < length cs → IsIn p (ids_of t Plane) → IsIn c (ids_of t Crtc) → commit_touches t cs k p ≡ true
       → ((plane_after t cs k p).crtc ≡ c) ⊎ ((plane_after t cs (suc k) p).crtc ≡ c) → commit_names t cs k c ≡ true
 
@@ -77,7 +82,8 @@ pub record MarksStand (t : Topology) (cs : List Commit) (ms : Marks) (go : List 
   pub latched : (k c : ℕ) → has_latched ls k c ≡ true → has_pair ms.flushed k c ≡ true
   pub go_is : (k c : ℕ) → read None go c ≡ Some k → IsPending ms.flushed ls k c
   pub clean_done : (k : ℕ) → has_number ms.cleaned k ≡ true → has_number ms.done k ≡ true
-  pub cleaned : (k c : ℕ) → has_number ms.cleaned k ≡ true → IsIn c (ids_of t Crtc) → commit_names t cs k c ≡ true → has_latched ls k c ≡ true
+  pub cleaned : (k c : ℕ) → has_number ms.cleaned k ≡ true → IsIn c (ids_of t Crtc) → commit_names t cs k c ≡ true → has_latched ls k c
+      ≡ true
 
 -- a commit has hw_done and has latched at each CRTC that concerns an object
 pub record IsSettled (t : Topology) (cs : List Commit) (dones : List ℕ) (ls : List Latch) (j o : ℕ) : Type 0 where
@@ -86,7 +92,8 @@ pub record IsSettled (t : Topology) (cs : List Commit) (dones : List ℕ) (ls : 
 
 -- a claimed commit comes after all earlier ones that touched one of its objects
 pub record OrderStands (t : Topology) (cs : List Commit) (ms : Marks) (ls : List Latch) : Type 0 where
-  pub settled : (k j o : ℕ) → has_number ms.claimed k ≡ true → j < k → IsIn o (lockable t) → commit_touches t cs k o ≡ true → commit_touches t cs j o ≡ true
+  pub settled : (k j o : ℕ) → has_number ms.claimed k ≡ true → j < k → IsIn o (lockable t) → commit_touches t cs k o ≡ true
+      → commit_touches t cs j o ≡ true
       → IsSettled t cs ms.done ls j o
 
 -- of those that touch an object, the first so many commits and no others have written it

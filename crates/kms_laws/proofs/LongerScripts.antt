@@ -1,11 +1,13 @@
 -- Each history of a script that was not ended is one of each longer script of the device, and leaves the same machine.
-use Rattle.std.proofs.Common.{◌≡◌, ℕ, zero, suc, List, [], ◌∷◌, ◌++◌, Bool, true, false, Option, Some, None, inl, inr, refl, sym, ap, ◌∙◌, subst, arith}
+use Rattle.std.proofs.Common.{◌≡◌, ℕ, zero, suc, List, [], ◌∷◌, ◌++◌, Bool, true, false, Option, Some, None, inl, inr, refl, sym, ap, ◌∙◌}
+use Rattle.std.proofs.Common.{subst, arith}
 use Rattle.std.specs.Prelude.{not, slice_get}
 use Rattle.std.proofs.lemmas.Bool.{and_from, and_parts, false≢true}
 use Rattle.std.proofs.lemmas.Option.{slice_get_within}
 use Rattle.kms_model.specs.declared.objects.Topology.{Topology}
 use Rattle.kms_model.specs.declared.replies.Step.{Step}
-use Rattle.kms_model.specs.declared.replies.Step.TheVariants.{Begin, Lock, BackOff, Relock, Refuse, Test, Swap, Make, Signal, Claim, Write, Flush, HwDone, Vblank, Cleanup, Read, Return, Stall}
+use Rattle.kms_model.specs.declared.replies.Step.TheVariants.{Begin, Lock, BackOff, Relock, Refuse, Test, Swap, Make, Signal, Claim, Write}
+use Rattle.kms_model.specs.declared.replies.Step.TheVariants.{Flush, HwDone, Vblank, Cleanup, Read, Return, Stall}
 use Rattle.kms_model.specs.declared.scripts.Command.{Command}
 use Rattle.kms_model.specs.declared.scripts.Command.TheVariants as command
 use Rattle.kms_model.specs.declared.scripts.Request.{Request}
@@ -14,7 +16,8 @@ use Rattle.kms_model.specs.Device.Serial.{Entry, command_of, from_one}
 use Rattle.kms_model.specs.Machine.Effects.{made_thing, next, refused, signalled_by, swapped_state}
 use Rattle.kms_model.specs.Machine.Histories.{are_legal, at, legal, run_steps}
 use Rattle.kms_model.specs.Machine.State.{Machine, command_at, doing_at, entry_at, first_machine, request_at, request_in}
-use Rattle.kms_model.specs.Machine.Steps.{idle_at, is_atomic, is_idle, is_lockable, is_making, is_signal, is_taking, is_wait, may, may_lock, may_refuse, may_swap, may_test, returning_of, taking_at}
+use Rattle.kms_model.specs.Machine.Steps.{idle_at, is_atomic, is_idle, is_lockable, is_making, is_signal, is_taking, is_wait, may, may_lock}
+use Rattle.kms_model.specs.Machine.Steps.{may_refuse, may_swap, may_test, returning_of, taking_at}
 use Rattle.kms_model.specs.Script.Longer.{at_last}
 use Rattle.kms_model.specs.Script.Words.{◌>>=◌}
 use Rattle.kms_laws.specs.Longer.{AddedIsLonger, HistoriesStay, StaysHistory}

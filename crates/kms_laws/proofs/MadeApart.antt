@@ -8,7 +8,9 @@ use Rattle.kms_model.specs.declared.scripts.Assign.{Assign}
 use Rattle.kms_model.specs.declared.scripts.Command.{Command}
 use Rattle.kms_model.specs.declared.scripts.Command.TheVariants as command
 use Rattle.kms_model.specs.Firsts.{one_if}
-use Rattle.kms_model.specs.Script.CommandLines.{Names, addfb_read, assign_read, assigns_read, atomic_read, blob_read, buffer_read, command_read, label_alone, label_read, making_read, mode_fields, mode_read, naming_read, pattern_at, thing_read}
+use Rattle.kms_model.specs.Script.CommandLines.{Names, addfb_read, assign_read, assigns_read, atomic_read, blob_read, buffer_read}
+use Rattle.kms_model.specs.Script.CommandLines.{command_read, label_alone, label_read, making_read, mode_fields, mode_read, naming_read}
+use Rattle.kms_model.specs.Script.CommandLines.{pattern_at, thing_read}
 use Rattle.kms_model.specs.Script.Grammar.{blob_bytes, field_words, format_at, hex_at}
 use Rattle.kms_model.specs.Script.Words.{dec_at, end_at, field_at, from, label_at, until}
 use Rattle.kms_model.proofs.Facts.{neither}

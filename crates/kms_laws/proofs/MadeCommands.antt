@@ -12,7 +12,10 @@ use Rattle.kms_model.specs.declared.scripts.Command.TheVariants as command
 use Rattle.kms_model.specs.declared.scripts.PropRef.{PropRef}
 use Rattle.kms_model.specs.declared.scripts.PropRef.TheVariants.{Known, Unknown}
 use Rattle.kms_model.specs.declared.scripts.Value.{Value}
-use Rattle.kms_model.specs.Script.CommandLines.{Names, addfb_read, assign_read, assign_words, assigns_read, atomic_read, blob_read, buffer_read, command_read, label_alone, label_read, making, making_read, mode_fields, mode_read, naming_read, pattern_at, place, property_read, saying, thing_read, value_read, was_made}
+use Rattle.kms_model.specs.Script.CommandLines.{Names, addfb_read, assign_read, assign_words, assigns_read, atomic_read, blob_read}
+use Rattle.kms_model.specs.Script.CommandLines.{buffer_read, command_read, label_alone, label_read, making, making_read, mode_fields}
+use Rattle.kms_model.specs.Script.CommandLines.{mode_read, naming_read, pattern_at, place, property_read, saying, thing_read, value_read}
+use Rattle.kms_model.specs.Script.CommandLines.{was_made}
 use Rattle.kms_model.specs.Script.Grammar.{blob_bytes, field_words, format_at, hex_at, int, known_property}
 use Rattle.kms_model.specs.Script.Words.{◌>>=◌, dec, dec_at, end_at, field_at, from, is_label, label_at, strip, until}
 use Rattle.kms_model.proofs.Facts.{neither}
@@ -41,7 +44,11 @@ kept names = record { was = λ k. refl; was_once = λ once. once; free = λ once
 
 saying_marks : (word : List ℕ) (names : Names) → Marks names nothing (saying word names)
 unfolding saying
-saying_marks word names = record { was = λ k. said_marks word names.all k; was_once = λ once. once; free = λ once k e. absurd (false≢true e) }
+saying_marks word names = record {
+  was = λ k. said_marks word names.all k;
+  was_once = λ once. once;
+  free = λ once k e. absurd (false≢true e);
+}
 
 making_marks : (word : List ℕ) (names : Names) → Marks names (λ k. place word names == k) (making word names)
 unfolding making
@@ -64,7 +71,8 @@ then_marks a b c m n all is first next = record {
   turned true false z = refl
   turned false y z = refl
 
-  by : b.is_twice ≡ false → (k : ℕ) (x y : Bool) → m k ≡ x → n k ≡ y → (x || y) ≡ true → (n k ≡ true → is_made_at b.all k ≡ false) → is_made_at a.all k ≡ false
+  by : b.is_twice ≡ false → (k : ℕ) (x y : Bool) → m k ≡ x → n k ≡ y → (x || y) ≡ true → (n k ≡ true → is_made_at b.all k ≡ false)
+      → is_made_at a.all k ≡ false
   by once k true y at_m at_n e later = first.free once k at_m
   by once k false y at_m at_n e later = (neither (m k) (is_made_at a.all k) (sym (first.was k) ∙ later (at_n ∙ e))).1
 
@@ -85,7 +93,8 @@ pub bind_if : {A B : Type 0} (o : Option A) (f : A → Option B) (P : B → Type
 bind_if None f P each = tt
 bind_if (Some x) f P each = each x
 
-pub then_if : {A B : Type 0} (o : Option A) (f : A → Option B) (Q : A → Type 0) (P : B → Type 0) → IfRead o Q → ((x : A) → Q x → IfRead (f x) P) → IfRead (o >>= f) P
+pub then_if : {A B : Type 0} (o : Option A) (f : A → Option B) (Q : A → Type 0) (P : B → Type 0) → IfRead o Q
+    → ((x : A) → Q x → IfRead (f x) P) → IfRead (o >>= f) P
 then_if None f Q P first each = tt
 then_if (Some x) f Q P first each = each x first
 
@@ -97,7 +106,8 @@ pub cond_if : {A : Type 0} (t : Bool) (a b : Option A) (P : A → Type 0) → If
 cond_if true a b P one other = one
 cond_if false a b P one other = other
 
-or_if : {A B : Type 0} (f : A → Option B) (o : Option A) (d : Option B) (P : B → Type 0) → ((x : A) → IfRead (f x) P) → IfRead d P → IfRead (option_map_or f o d) P
+or_if : {A B : Type 0} (f : A → Option B) (o : Option A) (d : Option B) (P : B → Type 0) → ((x : A) → IfRead (f x) P) → IfRead d P
+    → IfRead (option_map_or f o d) P
 or_if f None d P each other = other
 or_if f (Some x) d P each other = each x
 
@@ -119,7 +129,8 @@ unfolding addfb_read
 addfb_makes names bytes =
     bind_if (label_at bytes) _ (Makes names) (λ label.
     bind_if (label_alone label.1) _ (Makes names) (λ buffer.
-    before_kept names (making label.0 names) (saying buffer (making label.0 names)) _ (making_marks label.0 names) (saying_marks buffer (making label.0 names))))
+    before_kept names (making label.0 names) (saying buffer (making label.0 names)) _ (making_marks label.0 names)
+    (saying_marks buffer (making label.0 names))))
 
 mode_makes : (names : Names) (bytes : List ℕ) → IfRead (mode_read names bytes) (Makes names)
 unfolding mode_read
@@ -140,16 +151,19 @@ fence_makes : (names : Names) (bytes : List ℕ) → IfRead (making_read command
 unfolding making_read
 fence_makes names bytes = bind_if (label_alone bytes) _ (Makes names) (λ label. making_marks label names)
 
-naming_makes : (named_by : ℕ → Command) → ((l : ℕ) → makes (named_by l) ≡ nothing) → (names : Names) (bytes : List ℕ) → IfRead (naming_read named_by names bytes) (Makes names)
+naming_makes : (named_by : ℕ → Command) → ((l : ℕ) → makes (named_by l) ≡ nothing) → (names : Names) (bytes : List ℕ)
+    → IfRead (naming_read named_by names bytes) (Makes names)
 unfolding naming_read
-naming_makes named_by none names bytes = bind_if (label_alone bytes) _ (Makes names) (λ label. rw (none (place label names)) (saying_marks label names))
+naming_makes named_by none names bytes = bind_if (label_alone bytes) _ (Makes names)
+    (λ label. rw (none (place label names)) (saying_marks label names))
 
 -- Requests
 
 property_kept : (names : Names) (word : List ℕ) → Marks names nothing (property_read names word).1
 unfolding property_read
 property_kept names word = by (known_property names.profile word) where
-  by : (o : Option ℕ) → Marks names nothing (option_map_or {U = PropRef × Names} (λ id. (Known id, names)) o (Unknown (place word names), saying word names)).1
+  by : (o : Option ℕ) → Marks names nothing (option_map_or {U = PropRef × Names} (λ id. (Known id, names)) o
+      (Unknown (place word names), saying word names)).1
   by None = saying_marks word names
   by (Some id) = kept names
 
@@ -159,8 +173,10 @@ ValueMakes names v = Marks names (is_new v.0) v.1
 value_makes : (names : Names) (word : List ℕ) → IfRead (value_read names word) (ValueMakes names)
 unfolding value_read
 value_makes names word =
-    or_if _ (strip (codes "@") word) _ (ValueMakes names) (λ label. cond_if (is_label label) _ _ (ValueMakes names) (saying_marks label names) tt)
-    (or_if _ (strip (codes "+") word) _ (ValueMakes names) (λ label. cond_if (is_label label) _ _ (ValueMakes names) (making_marks label names) tt)
+    or_if _ (strip (codes "@") word) _ (ValueMakes names)
+    (λ label. cond_if (is_label label) _ _ (ValueMakes names) (saying_marks label names) tt)
+    (or_if _ (strip (codes "+") word) _ (ValueMakes names)
+    (λ label. cond_if (is_label label) _ _ (ValueMakes names) (making_marks label names) tt)
     (or_if _ (strip (codes "crtc") word) _ (ValueMakes names) (λ digits. map_if (dec 255 digits) _ (ValueMakes names) (λ i. kept names))
     (map_if (int word) _ (ValueMakes names) (λ z. kept names))))
 
@@ -171,7 +187,8 @@ pub assign_makes : (names : Names) (word : List ℕ) → IfRead (assign_read nam
 unfolding assign_read
 assign_makes names word =
     bind_if (assign_words word) _ (AssignMakes names) (λ w.
-    then_if (value_read ((property_read names w.2).1) w.3) _ (ValueMakes (property_read names w.2).1) (AssignMakes names) (value_makes (property_read names w.2).1 w.3) (λ v marks.
+    then_if (value_read ((property_read names w.2).1) w.3) _ (ValueMakes (property_read names w.2).1) (AssignMakes names)
+    (value_makes (property_read names w.2).1 w.3) (λ v marks.
     after_kept names (property_read names w.2).1 v.1 (is_new v.0) (property_kept names w.2) marks))
 
 abbrev pub AssignsMake : Names → List Assign × Names → Type 0
@@ -208,7 +225,8 @@ label_makes names keyword bytes =
     cond_if (bytes_eq keyword (codes "destroy")) _ _ (Makes names) (naming_makes command.Destroy (λ l. refl) names bytes)
     (cond_if (bytes_eq keyword (codes "closefb")) _ _ (Makes names) (naming_makes command.CloseFb (λ l. refl) names bytes)
     (cond_if (bytes_eq keyword (codes "fence")) _ _ (Makes names) (fence_makes names bytes)
-    (cond_if (bytes_eq keyword (codes "signal")) _ _ (Makes names) (naming_makes command.Signal (λ l. refl) names bytes) (thing_makes names keyword bytes))))
+    (cond_if (bytes_eq keyword (codes "signal")) _ _ (Makes names) (naming_makes command.Signal (λ l. refl) names bytes)
+    (thing_makes names keyword bytes))))
 
 -- the command of a line makes exactly the labels that are made with it
 pub command_makes : (names : Names) (text : List ℕ) → IfRead (command_read names text) (Makes names)

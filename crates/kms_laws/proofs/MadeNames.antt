@@ -21,7 +21,8 @@ pub said_marks : (word : List ℕ) (ns : List Name) (k : ℕ) → is_made_at (sa
 said_marks word [] zero = refl
 said_marks word [] (suc k) = refl
 said_marks word (n ∷ ns) zero = elim (cases_Bool (bytes_eq word n.word)) [ inl here ↦ rw here refl | inr away ↦ rw away refl ]
-said_marks word (n ∷ ns) (suc k) = elim (cases_Bool (bytes_eq word n.word)) [ inl here ↦ rw here refl | inr away ↦ rw away (said_marks word ns k) ]
+said_marks word (n ∷ ns) (suc k) = elim (cases_Bool (bytes_eq word n.word))
+    [ inl here ↦ rw here refl | inr away ↦ rw away (said_marks word ns k) ]
 
 zero_apart : (k : ℕ) → (0 == suc k) ≡ false
 zero_apart k = ne_eqb 0 (suc k) (λ e. absurd (omega (arith, e)))
@@ -40,7 +41,8 @@ suc_apart p = ne_eqb (suc p) 0 (λ e. absurd (omega (arith, e)))
 pub made_marks : (word : List ℕ) (ns : List Name) (k : ℕ) → is_made_at (made word ns) k ≡ ((number_of word ns == k) || is_made_at ns k)
 made_marks word [] zero = refl
 made_marks word [] (suc k) = rw (zero_apart k) refl
-made_marks word (n ∷ ns) zero = elim (cases_Bool (bytes_eq word n.word)) [ inl here ↦ rw here refl | inr away ↦ rw (away, suc_apart (number_of word ns)) refl ]
+made_marks word (n ∷ ns) zero = elim (cases_Bool (bytes_eq word n.word))
+    [ inl here ↦ rw here refl | inr away ↦ rw (away, suc_apart (number_of word ns)) refl ]
 made_marks word (n ∷ ns) (suc k) =
     elim (cases_Bool (bytes_eq word n.word)) [
       | inl here ↦ rw (here, zero_apart k) refl

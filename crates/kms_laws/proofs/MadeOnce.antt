@@ -1,5 +1,6 @@
 -- The commands of a script make each label once.
-use Rattle.std.proofs.Common.{◌≡◌, ◌≤◌, ℕ, zero, suc, ◌+◌, Bool, true, false, not, cond, List, [], ◌∷◌, ◌++◌, Option, Some, None, inl, inr, ◌⊎◌, refl, sym, ap, ◌∙◌, subst, arith}
+use Rattle.std.proofs.Common.{◌≡◌, ◌≤◌, ℕ, zero, suc, ◌+◌, Bool, true, false, not, cond, List, [], ◌∷◌, ◌++◌, Option, Some, None, inl, inr}
+use Rattle.std.proofs.Common.{◌⊎◌, refl, sym, ap, ◌∙◌, subst, arith}
 use Rattle.std.specs.Prelude.{◌==◌, ◌||◌, ◌&&◌, ⊤, codes, length, nat_le, nat_lt, option_map, Ok, Err}
 use Rattle.std.specs.List.{list_all, slice_get}
 use Rattle.std.specs.Str.{bytes_eq}
@@ -13,7 +14,9 @@ use Rattle.kms_model.specs.Script.Grammar.{is_printable}
 use Rattle.kms_model.specs.Script.InputLines.{Row, rows_of}
 use Rattle.kms_model.specs.Script.Spelling.{lined, spelt_line, spelt_lines}
 use Rattle.kms_model.specs.Script.WellFormed.{IsWellFormed}
-use Rattle.kms_model.specs.Script.WholeInput.{Draft, Lined, blank_draft, client_line, clients_in, clients_of, command_line, conn_at, conn_line, crtcs_at, crtcs_line, first_line, is_nil, later_line, plane_fields, plane_line, script_in, script_line, version_read}
+use Rattle.kms_model.specs.Script.WholeInput.{Draft, Lined, blank_draft, client_line, clients_in, clients_of, command_line, conn_at}
+use Rattle.kms_model.specs.Script.WholeInput.{conn_line, crtcs_at, crtcs_line, first_line, is_nil, later_line, plane_fields, plane_line}
+use Rattle.kms_model.specs.Script.WholeInput.{script_in, script_line, version_read}
 use Rattle.kms_model.specs.Script.Words.{◌>>=◌, end_at, from, until}
 use Rattle.kms_model.proofs.Items.{IsIn}
 use Rattle.kms_laws.specs.Once.{makes}
@@ -39,15 +42,18 @@ part_of w (y ∷ xs) zero x e = (let same : y ≡ x = cc in rw same (omega arith
 part_of w (y ∷ xs) (suc i) x e = (let h = part_of w xs i x e in omega (arith, h))
 
 -- two items at two places are
-parts_of : {A : Type 0} (w : A → ℕ) (xs : List A) (i j : ℕ) (x y : A) → slice_get xs i ≡ Some x → slice_get xs j ≡ Some y → (i ≡ j → ⊥) → w x + w y ≤ sum_by w xs
+parts_of : {A : Type 0} (w : A → ℕ) (xs : List A) (i j : ℕ) (x y : A) → slice_get xs i ≡ Some x → slice_get xs j ≡ Some y → (i ≡ j → ⊥)
+    → w x + w y ≤ sum_by w xs
 parts_of w [] i j x y e f apart = absurd cc
 parts_of w (z ∷ xs) zero zero x y e f apart = absurd (apart refl)
 parts_of w (z ∷ xs) zero (suc j) x y e f apart = (let same : z ≡ x = cc in let h = part_of w xs j y f in rw same (omega (arith, h)))
 parts_of w (z ∷ xs) (suc i) zero x y e f apart = (let same : z ≡ y = cc in let h = part_of w xs i x e in rw same (omega (arith, h)))
-parts_of w (z ∷ xs) (suc i) (suc j) x y e f apart = (let h = parts_of w xs i j x y e f (λ is. apart (ap (λ n. suc n) is)) in omega (arith, h))
+parts_of w (z ∷ xs) (suc i) (suc j) x y e f apart =
+    (let h = parts_of w xs i j x y e f (λ is. apart (ap (λ n. suc n) is)) in omega (arith, h))
 
 -- where a sum is at most 1, it has one place with a part
-one_place : {A : Type 0} (w : A → ℕ) (xs : List A) (i j : ℕ) (x y : A) → sum_by w xs ≤ 1 → slice_get xs i ≡ Some x → slice_get xs j ≡ Some y → 1 ≤ w x → 1 ≤ w y → i ≡ j
+one_place : {A : Type 0} (w : A → ℕ) (xs : List A) (i j : ℕ) (x y : A) → sum_by w xs ≤ 1 → slice_get xs i ≡ Some x → slice_get xs j ≡ Some y
+    → 1 ≤ w x → 1 ≤ w y → i ≡ j
 one_place w xs i j x y most e f some other =
     elim (cases_eq i j) [
       | inl same ↦ same
@@ -89,7 +95,8 @@ abbrev IfLine : Lined → (Draft → Type 0) → Type 0
 IfLine (Ok d) P = P d
 IfLine (Err why) P = ⊤
 
-form_if : {A : Type 0} (o : Option A) (f : A → Lined) (Q : A → Type 0) (P : Draft → Type 0) → IfRead o Q → ((x : A) → Q x → IfLine (f x) P) → IfLine (or_form o f) P
+form_if : {A : Type 0} (o : Option A) (f : A → Lined) (Q : A → Type 0) (P : Draft → Type 0) → IfRead o Q → ((x : A) → Q x → IfLine (f x) P)
+    → IfLine (or_form o f) P
 form_if None f Q P is each = tt
 form_if (Some x) f Q P is each = each x is
 
@@ -116,7 +123,8 @@ first_once d text is = form_if (version_read text) _ _ Once (any_read (version_r
 
 crtcs_once : (d : Draft) (text : List ℕ) → Once d → IfLine (crtcs_line d text) Once
 unfolding crtcs_line
-crtcs_once d text is = choose_if (bytes_eq (until 32 text) (codes "crtcs")) _ _ Once (form_if (crtcs_at (from 32 text)) _ _ Once (any_read (crtcs_at (from 32 text))) (λ n u. keeps d _ refl refl is)) tt
+crtcs_once d text is = choose_if (bytes_eq (until 32 text) (codes "crtcs")) _ _ Once
+    (form_if (crtcs_at (from 32 text)) _ _ Once (any_read (crtcs_at (from 32 text))) (λ n u. keeps d _ refl refl is)) tt
 
 plane_once : (d : Draft) (fields : List ℕ) → Once d → IfLine (plane_line d fields) Once
 unfolding plane_line
@@ -154,7 +162,8 @@ client_once d fields is =
     plus_none n = omega arith
 
 -- one more command of the present client
-sum_grown : (k : ℕ) (clients : List (List Command)) (commands : List Command) (c : Command) → times_in k (clients ++ (commands ++ c ∷ []) ∷ []) ≡ times_in k (clients ++ commands ∷ []) + one_if (makes c k)
+sum_grown : (k : ℕ) (clients : List (List Command)) (commands : List Command) (c : Command)
+    → times_in k (clients ++ (commands ++ c ∷ []) ∷ []) ≡ times_in k (clients ++ commands ∷ []) + one_if (makes c k)
 sum_grown k clients commands c =
     let grown = sum_last (times k) clients (commands ++ c ∷ []) in
     let was = sum_last (times k) clients commands in
@@ -191,7 +200,8 @@ grows d r is has marks once apart = record {
       rw has (apart_grown d.clients d.commands r.0 (rw has at was) apart));
   counted = λ k.
       let counted : times_in k (d.clients ++ clients_of d.has_client d.commands) ≡ one_if (is_made_at d.names.all k) = is.counted k in
-      rw (has, marks.was k) (sum_grown k d.clients d.commands r.0 ∙ ap (λ n. n + one_if (makes r.0 k)) (rw has at counted) ∙ plus_made (is_made_at d.names.all k) (makes r.0 k) (marks.free once k));
+      rw (has, marks.was k) (sum_grown k d.clients d.commands r.0 ∙ ap (λ n. n + one_if (makes r.0 k)) (rw has at counted) ∙ plus_made
+      (is_made_at d.names.all k) (makes r.0 k) (marks.free once k));
 }
 
 command_once : (d : Draft) (text : List ℕ) → Once d → IfLine (command_line d text) Once
@@ -213,7 +223,8 @@ later_once d text is =
 
 line_once : (d : Draft) (text : List ℕ) → Once d → IfLine (script_line d text) Once
 unfolding script_line
-line_once d text is = choose_if (d.head == 0) _ _ Once (first_once d text is) (choose_if (d.head == 1) _ _ Once (crtcs_once d text is) (later_once d text is))
+line_once d text is = choose_if (d.head == 0) _ _ Once (first_once d text is)
+    (choose_if (d.head == 1) _ _ Once (crtcs_once d text is) (later_once d text is))
 
 lined_if : (l : Lined) → IfLine l Once → IfRead (lined l) Once
 lined_if (Ok d) is = is
@@ -222,7 +233,8 @@ lined_if (Err why) is = tt
 lines_once : (rows : List Row) (d : Draft) → Once d → IfRead (spelt_lines d rows) Once
 lines_once [] d is = cond_if (is_nil d.conns) _ _ Once tt is
 lines_once (row ∷ rows) d is =
-    then_if (spelt_line d row) _ Once Once (cond_if (row.is_ended && list_all is_printable row.text) _ _ Once (lined_if (script_line d row.text) (line_once d row.text is)) tt) (λ next first. lines_once rows next first)
+    then_if (spelt_line d row) _ Once Once (cond_if (row.is_ended && list_all is_printable row.text) _ _ Once
+    (lined_if (script_line d row.text) (line_once d row.text is)) tt) (λ next first. lines_once rows next first)
 
 -- Scripts
 
@@ -258,11 +270,14 @@ record StandsAt (s : Script) (e : Entry) (c : Command) : Type 0 where
 
 stands_at : (s : Script) (e : Entry) (c : Command) → command_of s e ≡ Some c → StandsAt s e c
 stands_at s e c found = by e.client e.command refl refl found where
-  at_command : (n : ℕ) (commands : List Command) (m : ℕ) → suc n ≡ e.client → slice_get s.clients n ≡ Some commands → m ≡ e.command → from_one commands m ≡ Some c → StandsAt s e c
+  at_command : (n : ℕ) (commands : List Command) (m : ℕ) → suc n ≡ e.client → slice_get s.clients n ≡ Some commands → m ≡ e.command
+      → from_one commands m ≡ Some c → StandsAt s e c
   at_command n commands zero is_client row is_command item = absurd cc
-  at_command n commands (suc m) is_client row is_command item = record { client = n; place = m; commands = commands; is_client = is_client; is_place = is_command; row = row; item = item }
+  at_command n commands (suc m) is_client row is_command item =
+      record { client = n; place = m; commands = commands; is_client = is_client; is_place = is_command; row = row; item = item }
 
-  at_row : (n m : ℕ) (o : Option (List Command)) → slice_get s.clients n ≡ o → suc n ≡ e.client → m ≡ e.command → (o >>= (λ commands. from_one commands m)) ≡ Some c → StandsAt s e c
+  at_row : (n m : ℕ) (o : Option (List Command)) → slice_get s.clients n ≡ o → suc n ≡ e.client → m ≡ e.command
+      → (o >>= (λ commands. from_one commands m)) ≡ Some c → StandsAt s e c
   at_row n m None row is_client is_command found = absurd cc
   at_row n m (Some commands) row is_client is_command found = at_command n commands m is_client row is_command found
 
@@ -275,20 +290,26 @@ same_entry e f client command = ap (λ n. at n e.command) client ∙ ap (λ n. a
   at : ℕ → ℕ → Entry
   at client command = record { client = client; command = command }
 
-made_part : (commands : List Command) (i label : ℕ) (c : Command) → slice_get commands i ≡ Some c → makes c label ≡ true → 1 ≤ times label commands
-made_part commands i label c at is = (let h : one_if (makes c label) ≤ times label commands = part_of (λ d. one_if (makes d label)) commands i c at in let one : 1 ≤ times label commands = rw is at h in one)
+made_part : (commands : List Command) (i label : ℕ) (c : Command) → slice_get commands i ≡ Some c → makes c label ≡ true → 1
+    ≤ times label commands
+made_part commands i label c at is = (let h : one_if (makes c label)
+    ≤ times label commands = part_of (λ d. one_if (makes d label)) commands i c at in let one : 1 ≤ times label commands = rw is at h
+    in one)
 
 -- two commands that make the same label are one: the bytes that spell the script have no label that is made twice
-pub made_once : (s : Script) (e f : Entry) (c d : Command) (label : ℕ) → IsWellFormed s → command_of s e ≡ Some c → command_of s f ≡ Some d → makes c label ≡ true → makes d label ≡ true → e ≡ f
+pub made_once : (s : Script) (e f : Entry) (c d : Command) (label : ℕ) → IsWellFormed s → command_of s e ≡ Some c → command_of s f ≡ Some d
+    → makes c label ≡ true → makes d label ≡ true → e ≡ f
 made_once s e f c d label formed first second made_first made_second =
     let a = stands_at s e c first in
     let b = stands_at s f d second in
     let most = once_in s formed label in
-    let client : a.client ≡ b.client = one_place (times label) s.clients a.client b.client a.commands b.commands most a.row b.row (made_part a.commands a.place label c a.item made_first) (made_part b.commands b.place label d b.item made_second) in
+    let client : a.client ≡ b.client = one_place (times label) s.clients a.client b.client a.commands b.commands most a.row b.row
+    (made_part a.commands a.place label c a.item made_first) (made_part b.commands b.place label d b.item made_second) in
     let rows : a.commands ≡ b.commands = some_same a.commands b.commands (sym a.row ∙ ap (λ n. slice_get s.clients n) client ∙ b.row) in
     let few : times label a.commands ≤ 1 = (let h = part_of (times label) s.clients a.client a.commands a.row in omega (arith, h, most)) in
     let item : slice_get a.commands b.place ≡ Some d = rw rows b.item in
-    let place : a.place ≡ b.place = one_place (λ x. one_if (makes x label)) a.commands a.place b.place c d few a.item item (one made_first) (one made_second) in
+    let place : a.place ≡ b.place = one_place (λ x. one_if (makes x label)) a.commands a.place b.place c d few a.item item (one made_first)
+    (one made_second) in
     same_entry e f (sym a.is_client ∙ ap (λ n. suc n) client ∙ b.is_client) (sym a.is_place ∙ ap (λ n. suc n) place ∙ b.is_place)
   where
     some_same : (x y : List Command) → Some x ≡ Some y → x ≡ y

@@ -1,6 +1,7 @@
 -- How far locks can go on: backoffs of contexts as the digits of a number, the oldest first, and the phases between them. Each
 -- step of a context lowers what is left.
-use Rattle.std.proofs.Common.{◌≡◌, ℕ, zero, suc, ◌+◌, ◌*◌, ◌<◌, ◌≤◌, List, [], ◌∷◌, ◌++◌, length, length-append, Bool, true, false, not, ◌&&◌, ◌==◌, Option, Some, None, refl, sym, ap, ◌∙◌, subst, arith, inl, inr, ◌⊎◌, ⊎_elim}
+use Rattle.std.proofs.Common.{◌≡◌, ℕ, zero, suc, ◌+◌, ◌*◌, ◌<◌, ◌≤◌, List, [], ◌∷◌, ◌++◌, length, length-append, Bool, true, false, not}
+use Rattle.std.proofs.Common.{◌&&◌, ◌==◌, Option, Some, None, refl, sym, ap, ◌∙◌, subst, arith, inl, inr, ◌⊎◌, ⊎_elim}
 use Rattle.std.specs.Prelude.{if◌then◌else◌, filter, find, is_some, nat_lt}
 use Rattle.std.proofs.lemmas.List.FromFn.{length-map-range_with_len, length-range_with_len}
 use Rattle.std.proofs.Math.Nat.{mul-le-mul_right}
@@ -77,7 +78,8 @@ few-lockable t few =
     omega (arith, crtcs, planes, conns, a, b, few.crtcs, few.planes, few.conns)
 
 phase-small : (t : Topology) (x : Contexts) (client : ℕ) (d : Doing) → phase t x client d + 1 ≤ length (lockable t) + 5
-phase-small t x client (doing.Taking ticket) = let a = filter-most (λ o. not (has_value client (holder_in x o))) (lockable t) in omega (arith, a)
+phase-small t x client (doing.Taking ticket) = let a = filter-most (λ o. not (has_value client (holder_in x o))) (lockable t)
+    in omega (arith, a)
 phase-small t x client (doing.MustBackOff ticket object) = by_test (is_blocked x ticket.0 object.0)
   where
     by_test : (b : Bool) → (if b then 1 else length (lockable t) + 4) + 1 ≤ length (lockable t) + 5
@@ -145,8 +147,10 @@ all_backoffs-below s x (suc n) = by_client (with_ticket s x n) (all_backoffs-bel
     one-more : (k : ℕ) → 1 + k ≡ suc k
     one-more k = omega arith
 
-    by_client : (o : Option ℕ) → all_backoffs s x n + 1 ≤ three_to (active s x n) → digit_more x o (all_backoffs s x n) + 1 ≤ three_to (one_if (is_some o) + active s x n)
-    by_client None l = let e : three_to (0 + active s x n) ≡ three_to (active s x n) = ap three_to (none-more (active s x n)) in omega (arith, l, e)
+    by_client : (o : Option ℕ) → all_backoffs s x n + 1 ≤ three_to (active s x n) → digit_more x o (all_backoffs s x n) + 1
+        ≤ three_to (one_if (is_some o) + active s x n)
+    by_client None l = let e : three_to (0 + active s x n) ≡ three_to (active s x n) = ap three_to (none-more (active s x n))
+        in omega (arith, l, e)
     by_client (Some client) l =
         let b = backoffs-small x (doing_in x client) in
         let e : three_to (1 + active s x n) ≡ three_to (active s x n) * 3 = ap three_to (one-more (active s x n)) in
@@ -164,7 +168,8 @@ one_if-most false = omega arith
 
 hits-none : (t n : ℕ) → n ≤ t → hits (λ k. t == k) n ≡ 0
 hits-none t zero l = refl
-hits-none t (suc n) l = let a = ap one_if (ne_eqb t n (λ e. absurd (omega (arith, e, l)))) in let b = hits-none t n (omega (arith, l)) in omega (arith, a, b)
+hits-none t (suc n) l = let a = ap one_if (ne_eqb t n (λ e. absurd (omega (arith, e, l)))) in let b = hits-none t n (omega (arith, l))
+    in omega (arith, a, b)
 
 hits-once : (t n : ℕ) → hits (λ k. t == k) n ≤ 1
 hits-once t zero = omega arith
@@ -193,7 +198,8 @@ hits-found x [] n = none n
     none zero = omega arith
     none (suc n) = let a = none n in omega (arith, a)
 hits-found x (c ∷ cs) n =
-    let a = hits-or (λ k. has_this x k c) (λ k. is_some (find (has_this x k) cs)) (λ k. is_some (find (has_this x k) (c ∷ cs))) n (λ k. by_test (has_this x k c) (find (has_this x k) cs)) in
+    let a = hits-or (λ k. has_this x k c) (λ k. is_some (find (has_this x k) cs)) (λ k. is_some (find (has_this x k) (c ∷ cs))) n
+    (λ k. by_test (has_this x k c) (find (has_this x k) cs)) in
     let b = hits-and (has_context (doing_in x c)) (λ k. ticket_of (doing_in x c) == k) n in
     let d = hits-once (ticket_of (doing_in x c)) n in
     let e = hits-found x cs n in
@@ -223,7 +229,8 @@ all_phases s x = sum (λ c. phase s.topology x c (doing_in x c)) 1 (length s.cli
 
 pub phases-below : (s : Script) (x : Contexts) → HasFewObjects s.topology → length s.clients ≤ 16 → all_phases s x ≤ 512
 phases-below s x few clients =
-    let a = sum-most (λ c. phase s.topology x c (doing_in x c)) 32 1 (length s.clients) (λ c. let p = phase-small s.topology x c (doing_in x c) in let l = few-lockable s.topology few in omega (arith, p, l)) in
+    let a = sum-most (λ c. phase s.topology x c (doing_in x c)) 32 1 (length s.clients)
+    (λ c. let p = phase-small s.topology x c (doing_in x c) in let l = few-lockable s.topology few in omega (arith, p, l)) in
     omega (arith, a, clients)
 
 -- what is left of all contexts, with at most so many tickets
@@ -253,15 +260,19 @@ pub record IsOwnStep (s : Script) (x y : Contexts) (client : ℕ) : Type 0 where
   pub less : phase s.topology y client (doing_in y client) + 1 ≤ phase s.topology x client (doing_in x client)
   pub kind : (backoffs y (doing_in y client) + 1 ≤ backoffs x (doing_in x client)) ⊎ IsTaking x y client
 
-module _ (s : Script) (x y : Contexts) (n client : ℕ) (L : LocksStand s x n) (S : IsOwnStep s x y client) (is_client : IsIn client (client_numbers s)) where
+module _ (s : Script) (x y : Contexts) (n client : ℕ) (L : LocksStand s x n) (S : IsOwnStep s x y client)
+    (is_client : IsIn client (client_numbers s)) where
   all_tickets : (a : ℕ) → ticket_of (doing_in y a) ≡ ticket_of (doing_in x a)
-  all_tickets a = ⊎_elim (λ same. subst (λ z. ticket_of (doing_in y z) ≡ ticket_of (doing_in x z)) same S.same_ticket) (λ ne. ap ticket_of (S.others a ne)) (cases_eq client a)
+  all_tickets a = ⊎_elim (λ same. subst (λ z. ticket_of (doing_in y z) ≡ ticket_of (doing_in x z)) same S.same_ticket)
+      (λ ne. ap ticket_of (S.others a ne)) (cases_eq client a)
 
   all_have : (a : ℕ) → has_context (doing_in y a) ≡ has_context (doing_in x a)
-  all_have a = ⊎_elim (λ same. subst (λ z. has_context (doing_in y z) ≡ has_context (doing_in x z)) same (S.still ∙ sym S.ticket)) (λ ne. ap has_context (S.others a ne)) (cases_eq client a)
+  all_have a = ⊎_elim (λ same. subst (λ z. has_context (doing_in y z) ≡ has_context (doing_in x z)) same (S.still ∙ sym S.ticket))
+      (λ ne. ap has_context (S.others a ne)) (cases_eq client a)
 
   found_same : (ticket : ℕ) → find (has_this y ticket) (client_numbers s) ≡ find (has_this x ticket) (client_numbers s)
-  found_same ticket = find-same (has_this y ticket) (has_this x ticket) (client_numbers s) (λ a. (λ i. all_have a i && (all_tickets a i == ticket)))
+  found_same ticket = find-same (has_this y ticket) (has_this x ticket) (client_numbers s)
+      (λ a. (λ i. all_have a i && (all_tickets a i == ticket)))
 
   -- another client holds what it held
   held_same : (a o : ℕ) → (client ≡ a → ⊥) → has_value a (holder_in y o) ≡ has_value a (holder_in x o)
@@ -276,7 +287,8 @@ module _ (s : Script) (x y : Contexts) (n client : ℕ) (L : LocksStand s x n) (
       none h (inr e) = ap (has_value a) e ∙ ne_eqb client a ne
 
   -- what blocks an older context blocks it still
-  blocked_same : (a o : ℕ) → ticket_of (doing_in x a) < ticket_of (doing_in x client) → is_blocked y (ticket_of (doing_in x a)) o ≡ is_blocked x (ticket_of (doing_in x a)) o
+  blocked_same : (a o : ℕ) → ticket_of (doing_in x a) < ticket_of (doing_in x client) → is_blocked y (ticket_of (doing_in x a)) o
+      ≡ is_blocked x (ticket_of (doing_in x a)) o
   blocked_same a o older =
       ⊎_elim
       (λ same. ap (is_older y (ticket_of (doing_in x a))) same ∙ by_holder (holder_in x o))
@@ -287,26 +299,33 @@ module _ (s : Script) (x y : Contexts) (n client : ℕ) (L : LocksStand s x n) (
       by_holder None = refl
       by_holder (Some holder) = ap (λ z. nat_lt z (ticket_of (doing_in x a))) (all_tickets holder)
 
-      none : (h : Option ℕ) (z : Contexts) → IsFreeOr client h → ticket_of (doing_in z client) ≡ ticket_of (doing_in x client) → is_older z (ticket_of (doing_in x a)) h ≡ false
+      none : (h : Option ℕ) (z : Contexts) → IsFreeOr client h → ticket_of (doing_in z client) ≡ ticket_of (doing_in x client)
+          → is_older z (ticket_of (doing_in x a)) h ≡ false
       none h z (inl e) same = ap (is_older z (ticket_of (doing_in x a))) e
-      none h z (inr e) same = ap (is_older z (ticket_of (doing_in x a))) e ∙ le-ltb (ticket_of (doing_in z client)) (ticket_of (doing_in x a)) (omega (arith, older, same))
+      none h z (inr e) same = ap (is_older z (ticket_of (doing_in x a))) e ∙ le-ltb (ticket_of (doing_in z client))
+          (ticket_of (doing_in x a)) (omega (arith, older, same))
 
   -- so an older context may back off as often
-  backoffs_same : (a : ℕ) (d : Doing) → doing_in x a ≡ d → ticket_of (doing_in x a) < ticket_of (doing_in x client) → backoffs y d ≡ backoffs x d
+  backoffs_same : (a : ℕ) (d : Doing) → doing_in x a ≡ d → ticket_of (doing_in x a) < ticket_of (doing_in x client) → backoffs y d
+      ≡ backoffs x d
   backoffs_same a (doing.Taking ticket) e older = refl
-  backoffs_same a (doing.MustBackOff ticket object) e older = ap (λ b. if b then 1 else 2) (subst (λ z. is_blocked y z object.0 ≡ is_blocked x z object.0) (ap ticket_of e) (blocked_same a object.0 older))
-  backoffs_same a (doing.BackedOff ticket object) e older = ap (λ b. if b then 0 else 1) (subst (λ z. is_blocked y z object.0 ≡ is_blocked x z object.0) (ap ticket_of e) (blocked_same a object.0 older))
+  backoffs_same a (doing.MustBackOff ticket object) e older = ap (λ b. if b then 1 else 2)
+      (subst (λ z. is_blocked y z object.0 ≡ is_blocked x z object.0) (ap ticket_of e) (blocked_same a object.0 older))
+  backoffs_same a (doing.BackedOff ticket object) e older = ap (λ b. if b then 0 else 1)
+      (subst (λ z. is_blocked y z object.0 ≡ is_blocked x z object.0) (ap ticket_of e) (blocked_same a object.0 older))
   backoffs_same a doing.Idle e older = refl
   backoffs_same a (doing.Returning k) e older = refl
 
-  digit_same : (ticket n : ℕ) → ticket < ticket_of (doing_in x client) → digit_more y (with_ticket s y ticket) n ≡ digit_more x (with_ticket s x ticket) n
+  digit_same : (ticket n : ℕ) → ticket < ticket_of (doing_in x client) → digit_more y (with_ticket s y ticket) n
+      ≡ digit_more x (with_ticket s x ticket) n
   digit_same ticket n older = ap (λ o. digit_more y o n) (found_same ticket) ∙ go (with_ticket s x ticket) refl
     where
       go : (o : Option ℕ) → with_ticket s x ticket ≡ o → digit_more y o n ≡ digit_more x o n
       go None e = refl
       go (Some a) e =
           let has = find-holds (has_this x ticket) (client_numbers s) a e in
-          let is : ticket_of (doing_in x a) ≡ ticket = eqb-true (ticket_of (doing_in x a)) ticket (and_parts (has_context (doing_in x a)) _ has).1 in
+          let is : ticket_of (doing_in x a) ≡ ticket = eqb-true (ticket_of (doing_in x a)) ticket
+          (and_parts (has_context (doing_in x a)) _ has).1 in
           let ne : client ≡ a → ⊥ = (λ same. let z = ap (λ b. ticket_of (doing_in x b)) same in absurd (omega (arith, z, is, older))) in
           ap (λ z. n * 3 + z) (ap (backoffs y) (S.others a ne) ∙ backoffs_same a (doing_in x a) refl (omega (arith, is, older)))
 
@@ -319,15 +338,18 @@ module _ (s : Script) (x y : Contexts) (n client : ℕ) (L : LocksStand s x n) (
       go : (o : Option ℕ) → find (has_this x (ticket_of (doing_in x client))) (client_numbers s) ≡ o → o ≡ Some client
       go None e = absurd (both_bools _ own (find-fails (has_this x (ticket_of (doing_in x client))) (client_numbers s) client e is_client))
       go (Some a) e =
-          let has = and_parts (has_context (doing_in x a)) _ (find-holds (has_this x (ticket_of (doing_in x client))) (client_numbers s) a e) in
+          let has = and_parts (has_context (doing_in x a)) _
+          (find-holds (has_this x (ticket_of (doing_in x client))) (client_numbers s) a e) in
           ap Some (L.unique a client has.0 S.ticket (eqb-true (ticket_of (doing_in x a)) (ticket_of (doing_in x client)) has.1))
 
   -- A backoff: the client's digit is less, those of older ones are the same.
   back_same : (n : ℕ) → n ≤ ticket_of (doing_in x client) → all_backoffs s y n ≡ all_backoffs s x n
   back_same zero l = refl
-  back_same (suc n) l = digit_same n (all_backoffs s y n) (omega (arith, l)) ∙ ap (digit_more x (with_ticket s x n)) (back_same n (omega (arith, l)))
+  back_same (suc n) l = digit_same n (all_backoffs s y n) (omega (arith, l)) ∙ ap (digit_more x (with_ticket s x n))
+      (back_same n (omega (arith, l)))
 
-  back_less : backoffs y (doing_in y client) + 1 ≤ backoffs x (doing_in x client) → (n : ℕ) → ticket_of (doing_in x client) < n → all_backoffs s y n + 1 ≤ all_backoffs s x n
+  back_less : backoffs y (doing_in y client) + 1 ≤ backoffs x (doing_in x client) → (n : ℕ) → ticket_of (doing_in x client) < n
+      → all_backoffs s y n + 1 ≤ all_backoffs s x n
   back_less own zero l = absurd (omega arith)
   back_less own (suc n) l =
       ⊎_elim
@@ -341,9 +363,11 @@ module _ (s : Script) (x y : Contexts) (n client : ℕ) (L : LocksStand s x n) (
       omega (arith, a, b, c, own))
       (cases_lt (ticket_of (doing_in x client)) n)
     where
-      later : (o : Option ℕ) → with_ticket s y n ≡ o → all_backoffs s y n + 1 ≤ all_backoffs s x n → digit_more y (with_ticket s y n) (all_backoffs s y n) + 1 ≤ digit_more x o (all_backoffs s x n)
+      later : (o : Option ℕ) → with_ticket s y n ≡ o → all_backoffs s y n + 1 ≤ all_backoffs s x n
+          → digit_more y (with_ticket s y n) (all_backoffs s y n) + 1 ≤ digit_more x o (all_backoffs s x n)
       later None e l = let a = ap (λ o. digit_more y o (all_backoffs s y n)) e in omega (arith, a, l)
-      later (Some c) e l = let a = ap (λ o. digit_more y o (all_backoffs s y n)) e in let b = backoffs-small y (doing_in y c) in omega (arith, a, b, l)
+      later (Some c) e l = let a = ap (λ o. digit_more y o (all_backoffs s y n)) e in let b = backoffs-small y (doing_in y c)
+          in omega (arith, a, b, l)
 
   -- Otherwise: no context has more left.
   module _ (T : IsTaking x y client) where
@@ -366,16 +390,21 @@ module _ (s : Script) (x y : Contexts) (n client : ℕ) (L : LocksStand s x n) (
 
     backoffs_less : (d : Doing) → backoffs y d ≤ backoffs x d
     backoffs_less (doing.Taking ticket) = omega arith
-    backoffs_less (doing.MustBackOff ticket object) = if-less (is_blocked x ticket.0 object.0) (is_blocked y ticket.0 object.0) 1 2 (blocked_more ticket.0 object.0) (omega arith)
-    backoffs_less (doing.BackedOff ticket object) = if-less (is_blocked x ticket.0 object.0) (is_blocked y ticket.0 object.0) 0 1 (blocked_more ticket.0 object.0) (omega arith)
+    backoffs_less (doing.MustBackOff ticket object) = if-less (is_blocked x ticket.0 object.0) (is_blocked y ticket.0 object.0) 1 2
+        (blocked_more ticket.0 object.0) (omega arith)
+    backoffs_less (doing.BackedOff ticket object) = if-less (is_blocked x ticket.0 object.0) (is_blocked y ticket.0 object.0) 0 1
+        (blocked_more ticket.0 object.0) (omega arith)
     backoffs_less doing.Idle = omega arith
     backoffs_less (doing.Returning k) = omega arith
 
     phase_less : (a : ℕ) (d : Doing) → (client ≡ a → ⊥) → phase s.topology y a d ≤ phase s.topology x a d
     phase_less a (doing.Taking ticket) ne =
-        let e = ap length (filter-same (λ o. not (has_value a (holder_in y o))) (λ o. not (has_value a (holder_in x o))) (lockable s.topology) (λ o is. ap not (held_same a o ne))) in omega (arith, e)
-    phase_less a (doing.MustBackOff ticket object) ne = if-less (is_blocked x ticket.0 object.0) (is_blocked y ticket.0 object.0) 1 (length (lockable s.topology) + 4) (blocked_more ticket.0 object.0) (omega arith)
-    phase_less a (doing.BackedOff ticket object) ne = if-less (is_blocked x ticket.0 object.0) (is_blocked y ticket.0 object.0) 0 (length (lockable s.topology) + 3) (blocked_more ticket.0 object.0) (omega arith)
+        let e = ap length (filter-same (λ o. not (has_value a (holder_in y o))) (λ o. not (has_value a (holder_in x o)))
+        (lockable s.topology) (λ o is. ap not (held_same a o ne))) in omega (arith, e)
+    phase_less a (doing.MustBackOff ticket object) ne = if-less (is_blocked x ticket.0 object.0) (is_blocked y ticket.0 object.0) 1
+        (length (lockable s.topology) + 4) (blocked_more ticket.0 object.0) (omega arith)
+    phase_less a (doing.BackedOff ticket object) ne = if-less (is_blocked x ticket.0 object.0) (is_blocked y ticket.0 object.0) 0
+        (length (lockable s.topology) + 3) (blocked_more ticket.0 object.0) (omega arith)
     phase_less a doing.Idle ne = omega arith
     phase_less a (doing.Returning k) ne = omega arith
 
@@ -390,7 +419,8 @@ module _ (s : Script) (x y : Contexts) (n client : ℕ) (L : LocksStand s x n) (
     all_less zero = omega arith
     all_less (suc n) = by_client (with_ticket s x n) (found_same n) (all_less n)
       where
-        by_client : (o : Option ℕ) → with_ticket s y n ≡ o → all_backoffs s y n ≤ all_backoffs s x n → digit_more y (with_ticket s y n) (all_backoffs s y n) ≤ digit_more x o (all_backoffs s x n)
+        by_client : (o : Option ℕ) → with_ticket s y n ≡ o → all_backoffs s y n ≤ all_backoffs s x n
+            → digit_more y (with_ticket s y n) (all_backoffs s y n) ≤ digit_more x o (all_backoffs s x n)
         by_client None e l = let a = ap (λ o. digit_more y o (all_backoffs s y n)) e in omega (arith, a, l)
         by_client (Some c) e l = let a = ap (λ o. digit_more y o (all_backoffs s y n)) e in let b = own_less c in omega (arith, a, b, l)
 
@@ -399,12 +429,14 @@ module _ (s : Script) (x y : Contexts) (n client : ℕ) (L : LocksStand s x n) (
         sum-one (λ c. phase s.topology y c (doing_in y c)) (λ c. phase s.topology x c (doing_in x c)) client 1 (length s.clients)
         (λ a l m.
         ⊎_elim
-        (λ same. subst (λ z. phase s.topology y z (doing_in y z) ≤ phase s.topology x z (doing_in x z)) same (let z = S.less in omega (arith, z)))
+        (λ same. subst (λ z. phase s.topology y z (doing_in y z) ≤ phase s.topology x z (doing_in x z)) same
+        (let z = S.less in omega (arith, z)))
         (λ ne. let e = ap (phase s.topology y a) (S.others a ne) in let z = phase_less a (doing_in x a) ne in omega (arith, e, z))
         (cases_eq client a))
         S.less low high
 
-  pub own_step_less : (most : ℕ) → ticket_of (doing_in x client) < most → HasFewObjects s.topology → length s.clients ≤ 16 → 1 ≤ client → client < 1 + length s.clients → contexts_left s most y + 1 ≤ contexts_left s most x
+  pub own_step_less : (most : ℕ) → ticket_of (doing_in x client) < most → HasFewObjects s.topology → length s.clients ≤ 16 → 1 ≤ client
+      → client < 1 + length s.clients → contexts_left s most y + 1 ≤ contexts_left s most x
   own_step_less most l few clients low high =
       ⊎_elim
       (λ back.

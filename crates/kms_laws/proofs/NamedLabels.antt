@@ -18,7 +18,9 @@ use Rattle.kms_model.specs.declared.worlds.Content.TheVariants as content
 use Rattle.kms_model.specs.declared.worlds.Thing.{Thing}
 use Rattle.kms_model.specs.declared.worlds.World.{World}
 use Rattle.kms_model.specs.Device.Closing.{closed_in}
-use Rattle.kms_model.specs.Device.Execution.{BufferInfo, add_fb, buffer_of, close_refusal, close_unless, commit, committed, destroy_refusal, execute, make_out_fence, make_out_fences, make_unless, new_buffer_refusal, signal_refusal, signal_unless}
+use Rattle.kms_model.specs.Device.Execution.{BufferInfo, add_fb, buffer_of, close_refusal, close_unless, commit, committed, destroy_refusal}
+use Rattle.kms_model.specs.Device.Execution.{execute, make_out_fence, make_out_fences, make_unless, new_buffer_refusal, signal_refusal}
+use Rattle.kms_model.specs.Device.Execution.{signal_unless}
 use Rattle.kms_model.specs.Device.Objects.{ids_of}
 use Rattle.kms_model.specs.Device.Serial.{Entry, command_of}
 use Rattle.kms_model.specs.Device.World.{thing_labelled}

@@ -1,17 +1,21 @@
 -- A history is drained, can go on, or tells the fence that it waits for: so a dead one names a fence.
-use Rattle.std.proofs.Common.{◌≡◌, ℕ, ◌<◌, List, length, true, false, not, ◌&&◌, ◌||◌, Option, Some, None, refl, sym, ap, ◌∙◌, subst, arith, inl, inr, ◌⊎◌, ⊎_elim}
+use Rattle.std.proofs.Common.{◌≡◌, ℕ, ◌<◌, List, length, true, false, not, ◌&&◌, ◌||◌, Option, Some, None, refl, sym, ap, ◌∙◌, subst, arith}
+use Rattle.std.proofs.Common.{inl, inr, ◌⊎◌, ⊎_elim}
 use Rattle.std.specs.List.{list_all, list_any}
 use Rattle.std.proofs.lemmas.Bool.{and_from, and_parts, cases_Bool, cond-true, not-true}
 use Rattle.kms_model.specs.declared.objects.Topology.{Topology}
 use Rattle.kms_model.specs.declared.replies.Step.{Step}
-use Rattle.kms_model.specs.declared.replies.Step.TheVariants.{Begin, Lock, BackOff, Relock, Refuse, Test, Swap, Make, Signal, Claim, Write, Flush, HwDone, Vblank, Cleanup, Read, Return, Stall}
+use Rattle.kms_model.specs.declared.replies.Step.TheVariants.{Begin, Lock, BackOff, Relock, Refuse, Test, Swap, Make, Signal, Claim, Write}
+use Rattle.kms_model.specs.declared.replies.Step.TheVariants.{Flush, HwDone, Vblank, Cleanup, Read, Return, Stall}
 use Rattle.kms_model.specs.declared.scripts.Script.{Script}
 use Rattle.kms_model.specs.Firsts.{first_some}
 use Rattle.kms_model.specs.Machine.Commits.{is_all_flushed, is_all_latched, is_all_written, is_cleaned}
 use Rattle.kms_model.specs.Machine.Effects.{next}
-use Rattle.kms_model.specs.Machine.Histories.{at, awaited_by, awaited_label, client_numbers, commit_numbers, is_at_end, is_dead, is_drained, is_enabled, is_history, legal, stalled_on, steps_that_move}
+use Rattle.kms_model.specs.Machine.Histories.{at, awaited_by, awaited_label, client_numbers, commit_numbers, is_at_end, is_dead, is_drained}
+use Rattle.kms_model.specs.Machine.Histories.{is_enabled, is_history, legal, stalled_on, steps_that_move}
 use Rattle.kms_model.specs.Machine.State.{Machine, first_machine}
-use Rattle.kms_model.specs.Machine.Steps.{first_pending, holds_touched, is_pending, is_ready, lacks_space, may, may_claim, may_lock, may_refuse, may_swap, may_test, next_flush, next_write}
+use Rattle.kms_model.specs.Machine.Steps.{first_pending, holds_touched, is_pending, is_ready, lacks_space, may, may_claim, may_lock}
+use Rattle.kms_model.specs.Machine.Steps.{may_refuse, may_swap, may_test, next_flush, next_write}
 use Rattle.kms_model.specs.Promises.{WaitsForFence}
 use Rattle.kms_model.proofs.Items.{list_all-from, list_any-has}
 use Rattle.kms_laws.specs.Laws.{TellsFence, can_move}
@@ -58,9 +62,12 @@ step_facts s m step plain F h = record {
   fences = step_keeps s (FencesStand s.topology) (fences_kept s) m F.holds F.fences step h;
 }
 
-drained_from : (s : Script) (m : Machine) → list_all (is_at_end s m) (client_numbers s) ≡ true → ((k : ℕ) → k < length m.device.commits → is_cleaned m.device k ≡ true) → is_drained s m ≡ true
+drained_from : (s : Script) (m : Machine) → list_all (is_at_end s m) (client_numbers s) ≡ true
+    → ((k : ℕ) → k < length m.device.commits → is_cleaned m.device k ≡ true) → is_drained s m ≡ true
 unfolding is_drained
-drained_from s m ends clean = and_from _ _ ends (list_all-from (is_cleaned m.device) (commit_numbers m) (λ k i. clean k (let l = range-below 0 (length m.device.commits) k i in omega arith)))
+drained_from s m ends clean = and_from _ _ ends
+    (list_all-from (is_cleaned m.device) (commit_numbers m)
+    (λ k i. clean k (let l = range-below 0 (length m.device.commits) k i in omega arith)))
 
 -- drained, or a step may be done, or a fence is told
 pub never_stuck_at : (s : Script) (m : Machine) → Facts s m → (is_drained s m ≡ true) ⊎ ((can_move s m ≡ true) ⊎ TellsFence s m)
@@ -96,12 +103,14 @@ pub record IsStuck (s : Script) (m : Machine) : Type 0 where
 pub stuck-from : (s : Script) (m : Machine) → Facts s m → m.stalled ≡ false → is_dead s m ≡ true → IsStuck s m
 unfolding is_dead is_enabled
 stuck-from s m F going h =
-    let g : (not (is_drained s m) && not (list_any (may s m) (steps_that_move s m))) ≡ true = sym (ap (λ b. b || (not (is_drained s m) && not (not b && list_any (may s m) (steps_that_move s m)))) going) ∙ h in
+    let g : (not (is_drained s m) && not (list_any (may s m) (steps_that_move s m)))
+    ≡ true = sym (ap (λ b. b || (not (is_drained s m) && not (not b && list_any (may s m) (steps_that_move s m)))) going) ∙ h in
     let two = and_parts (not (is_drained s m)) _ g in
     record { facts = F; undrained = not-true _ two.0; unable = not-true _ two.1 }
 
 tells : (s : Script) (m : Machine) → IsStuck s m → TellsFence s m
-tells s m S = ⊎_elim (λ drained. absurd (both_bools _ drained S.undrained)) (λ rest. ⊎_elim (λ move. absurd (both_bools _ move S.unable)) (λ t. t) rest) (never_stuck_at s m S.facts)
+tells s m S = ⊎_elim (λ drained. absurd (both_bools _ drained S.undrained))
+    (λ rest. ⊎_elim (λ move. absurd (both_bools _ move S.unable)) (λ t. t) rest) (never_stuck_at s m S.facts)
 
 -- a machine that was ended
 abbrev ended : Machine → Machine
@@ -116,7 +125,8 @@ told-ended : (t : Topology) (m : Machine) → awaited_label t (record m { stalle
 unfolding awaited_label
 told-ended t m = go (first_some (awaited_by t m) (commit_numbers m)) refl
   where
-    go : (o : Option ℕ) → first_some (awaited_by t m) (commit_numbers m) ≡ o → awaited_label t (record m { stalled = true }) ≡ awaited_label t m
+    go : (o : Option ℕ) → first_some (awaited_by t m) (commit_numbers m) ≡ o → awaited_label t (record m { stalled = true })
+        ≡ awaited_label t m
     go None e = rw e refl
     go (Some fence) e = rw e refl
 
@@ -154,19 +164,25 @@ pub step_along : (s : Script) (m : Machine) (step : Step) → IsPlainScript s �
 step_along s m step plain A h = record { facts = step_facts s m step plain A.facts h; end = go (ending s m step h) }
   where
     at_end : legal s m Stall ≡ true → ((next s m Stall).stalled ≡ false) ⊎ WasEnded s (next s m Stall)
-    at_end l = inr (record { before = m; same = stall-next s m; stuck = stuck-from s m A.facts (legal-going s m Stall l) (stall-dead s m l) })
+    at_end l = inr (record {
+      before = m;
+      same = stall-next s m;
+      stuck = stuck-from s m A.facts (legal-going s m Stall l) (stall-dead s m l);
+    })
 
     go : Ending m step (next s m step) → ((next s m step).stalled ≡ false) ⊎ WasEnded s (next s m step)
     go (inl e) = subst (λ z. legal s m z ≡ true → ((next s m z).stalled ≡ false) ⊎ WasEnded s (next s m z)) (sym e) at_end h
     go (inr still) = inl (still ∙ legal-going s m step h)
 
 pub history_along : (s : Script) (h : List Step) → IsPlainScript s → is_history s h ≡ true → Along s (at s h)
-history_along s h plain is = along s (Along s) (λ m step A legal_step. step_along s m step plain A legal_step) h (first_machine s.topology) (record { facts = first_facts s plain; end = inl refl }) is
+history_along s h plain is = along s (Along s) (λ m step A legal_step. step_along s m step plain A legal_step) h (first_machine s.topology)
+    (record { facts = first_facts s plain; end = inl refl }) is
 
 -- What may be done does not read whether a history was ended
 
 may-ended : (s : Script) (m : Machine) (step : Step) → may s (record m { stalled = true }) step ≡ may s m step
-unfolding may may_lock may_refuse may_test may_swap may_claim next_write next_flush is_all_written is_all_flushed is_all_latched holds_touched lacks_space is_ready is_pending first_pending
+unfolding may may_lock may_refuse may_test may_swap may_claim next_write next_flush is_all_written is_all_flushed is_all_latched
+    holds_touched lacks_space is_ready is_pending first_pending
 may-ended s m (Begin client) = refl
 may-ended s m (Lock client kind index) = refl
 may-ended s m (BackOff client) = refl
@@ -192,9 +208,11 @@ can-ended s m = (λ i. list_any (λ step. may-ended s m step i) (steps_that_move
 -- where a step may be done, the history was not ended
 pub still-going : (s : Script) (m : Machine) → Along s m → can_move s m ≡ true → m.stalled ≡ false
 still-going s m A move =
-    ⊎_elim (λ going. going) (λ (w : WasEnded s m). absurd (both_bools _ move (ap (can_move s) w.same ∙ can-ended s w.before ∙ w.stuck.unable))) A.end
+    ⊎_elim (λ going. going) (λ (w : WasEnded s m). absurd
+    (both_bools _ move (ap (can_move s) w.same ∙ can-ended s w.before ∙ w.stuck.unable))) A.end
 
-pub dead_names_a_fence : (s : Script) (h : List Step) → IsPlainScript s → is_history s h ≡ true → is_dead s (at s h) ≡ true → (label : ℕ) × (stalled_on s (at s h) ≡ Some label) × WaitsForFence s (at s h) label
+pub dead_names_a_fence : (s : Script) (h : List Step) → IsPlainScript s → is_history s h ≡ true → is_dead s (at s h) ≡ true → (label : ℕ)
+    × (stalled_on s (at s h) ≡ Some label) × WaitsForFence s (at s h) label
 dead_names_a_fence s h plain is dead =
     let A = history_along s h plain is in
     let T : TellsFence s (at s h) =
@@ -204,7 +222,8 @@ dead_names_a_fence s h plain is dead =
     A.end in
     (T.label, cond-true (is_dead s (at s h)) (awaited_label s.topology (at s h)) None dead ∙ T.told, T.waits)
 
-pub never_stuck : (s : Script) (h : List Step) → IsPlainScript s → is_history s h ≡ true → (is_drained s (at s h) ≡ true) ⊎ ((can_move s (at s h) ≡ true) ⊎ TellsFence s (at s h))
+pub never_stuck : (s : Script) (h : List Step) → IsPlainScript s → is_history s h ≡ true → (is_drained s (at s h) ≡ true)
+    ⊎ ((can_move s (at s h) ≡ true) ⊎ TellsFence s (at s h))
 never_stuck s h plain is = never_stuck_at s (at s h) (history_along s h plain is).facts
 
 pub history_facts : (s : Script) (h : List Step) → IsPlainScript s → is_history s h ≡ true → Facts s (at s h)

@@ -34,7 +34,8 @@ module _ (s : Script) (m : Machine) (L : HasLocks s m) where
   waited_holds : (x y : ℕ) → Waits s m x y → may_hold (doing_at m y) ≡ true
   waited_holds x y w =
       ⊎_elim
-      (λ lock. holder-holds y w.object (and_parts (holds m y w.object) _ (and_parts (taking_at s m x (λ r. reaches s.topology m.device.world r w.object)) _ lock).1).0)
+      (λ lock. holder-holds y w.object (and_parts (holds m y w.object) _
+      (and_parts (taking_at s m x (λ r. reaches s.topology m.device.world r w.object)) _ lock).1).0)
       (λ relock. holder-holds y w.object (and_parts (has_value w.object (contended (doing_at m x))) _ relock).1)
       w.waits
 
@@ -54,11 +55,16 @@ module _ (s : Script) (m : Machine) (L : HasLocks s m) where
       (λ (same : ticket_of (doing_at m x) ≡ ticket_of (doing_at m y)).
       absurd (w.others (L.unique x y (held-ticket (doing_at m x) held) (held-ticket (doing_at m y) (waited_holds x y w)) same)))
       (λ apart.
-      let older : ticket_of (doing_at m y) < ticket_of (doing_at m x) = ⊎_elim (λ (lt : ticket_of (doing_at m y) < ticket_of (doing_at m x)). lt) (λ (ge2 : ticket_of (doing_at m x) ≤ ticket_of (doing_at m y)). absurd (apart (omega arith))) (cases_lt (ticket_of (doing_at m y)) (ticket_of (doing_at m x))) in
-      absurd (both_bools _ (and_from _ _ one.0 (ap (is_free_or_older m (ticket_of (doing_at m x))) holder ∙ lt-ltb (ticket_of (doing_at m y)) (ticket_of (doing_at m x)) older)) (not-true _ two.1)))
+      let older : ticket_of (doing_at m y) < ticket_of (doing_at m x) = ⊎_elim
+      (λ (lt : ticket_of (doing_at m y) < ticket_of (doing_at m x)). lt)
+      (λ (ge2 : ticket_of (doing_at m x) ≤ ticket_of (doing_at m y)). absurd (apart (omega arith)))
+      (cases_lt (ticket_of (doing_at m y)) (ticket_of (doing_at m x))) in
+      absurd (both_bools _ (and_from _ _ one.0 (ap (is_free_or_older m (ticket_of (doing_at m x))) holder ∙ lt-ltb
+      (ticket_of (doing_at m y)) (ticket_of (doing_at m x)) older)) (not-true _ two.1)))
       (cases_eq (ticket_of (doing_at m x)) (ticket_of (doing_at m y))))
       (cases_lt (ticket_of (doing_at m x)) (ticket_of (doing_at m y))))
-      (λ relock. absurd (contended-free (doing_at m x) w.object (and_parts (has_value w.object (contended (doing_at m x))) _ relock).0 held))
+      (λ relock. absurd (contended-free (doing_at m x) w.object (and_parts (has_value w.object (contended (doing_at m x))) _ relock).0
+      held))
       w.waits
 
   along_holds : {x y : ℕ} → WaitsAlong s m x y → may_hold (doing_at m y) ≡ true
@@ -72,7 +78,8 @@ module _ (s : Script) (m : Machine) (L : HasLocks s m) where
   pub no_cycle_at : (client : ℕ) → WaitsAlong s m client client → ⊥
   no_cycle_at client way = let l = along_rises way (along_holds way) in omega arith
 
-pub no_cycle : (s : Script) (h : List Step) → IsPlainScript s → is_history s h ≡ true → (client : ℕ) → WaitsAlong s (at s h) client client → ⊥
+pub no_cycle : (s : Script) (h : List Step) → IsPlainScript s → is_history s h ≡ true → (client : ℕ) → WaitsAlong s (at s h) client client
+    → ⊥
 no_cycle s h plain is client way = no_cycle_at s (at s h) (history_facts s h plain is).locks client way
 
 pub test_changes_nothing : TestChangesNothing

@@ -1,5 +1,6 @@
 -- A script without a `fence` command has no dead history, and no generated script has one.
-use Rattle.std.proofs.Common.{◌≡◌, ℕ, ◌+◌, List, [], ◌∷◌, ◌++◌, Bool, true, false, Option, Some, None, refl, sym, ap, ◌∙◌, subst, arith, inl, inr}
+use Rattle.std.proofs.Common.{◌≡◌, ℕ, ◌+◌, List, [], ◌∷◌, ◌++◌, Bool, true, false, Option, Some, None, refl, sym, ap, ◌∙◌, subst, arith}
+use Rattle.std.proofs.Common.{inl, inr}
 use Rattle.std.specs.Prelude.{if◌then◌else◌, codes, not, ◌-◌, ◌%◌, ◌==◌}
 use Rattle.std.specs.List.{AllByRecursion, flat_map}
 use Rattle.std.specs.Option.{option_and_then}
@@ -17,7 +18,9 @@ use Rattle.kms_model.specs.declared.worlds.Content.TheVariants as content
 use Rattle.kms_model.specs.declared.worlds.Thing.{Thing}
 use Rattle.kms_model.specs.declared.worlds.World.{World}
 use Rattle.kms_model.specs.Device.Closing.{closed_in}
-use Rattle.kms_model.specs.Device.Execution.{BufferInfo, add_fb, buffer_of, close_refusal, close_unless, destroy_refusal, execute, is_made_fence, make, make_out_fence, make_out_fences, make_unless, new_buffer_refusal, signal_refusal, signal_unless}
+use Rattle.kms_model.specs.Device.Execution.{BufferInfo, add_fb, buffer_of, close_refusal, close_unless, destroy_refusal, execute}
+use Rattle.kms_model.specs.Device.Execution.{is_made_fence, make, make_out_fence, make_out_fences, make_unless, new_buffer_refusal}
+use Rattle.kms_model.specs.Device.Execution.{signal_refusal, signal_unless}
 use Rattle.kms_model.specs.Device.Objects.{ids_of}
 use Rattle.kms_model.specs.Device.Serial.{Entry, command_of, from_one}
 use Rattle.kms_model.specs.Device.Sound.{HasPlaneKind, IsDevice}
@@ -27,7 +30,8 @@ use Rattle.kms_model.specs.Machine.Histories.{at, is_awaited, is_dead, is_histor
 use Rattle.kms_model.specs.Machine.Steps.{is_atomic}
 use Rattle.kms_model.specs.Request.Apply.{after}
 use Rattle.kms_model.specs.Request.Touched.{out_fence_label}
-use Rattle.kms_model.specs.Script.Generated.{Drawn, commands_for, drawn_from, flip, flips_of, generated, generated_device, generated_mode, mode_m, names_of_client}
+use Rattle.kms_model.specs.Script.Generated.{Drawn, commands_for, drawn_from, flip, flips_of, generated, generated_device, generated_mode}
+use Rattle.kms_model.specs.Script.Generated.{mode_m, names_of_client}
 use Rattle.kms_model.specs.Script.Words.{is_label}
 use Rattle.kms_model.proofs.FramedLemmas.{closed_same}
 use Rattle.kms_model.proofs.Items.{IsIn}
@@ -61,18 +65,23 @@ have-closed : (things : List Thing) (id : ℕ) → HaveNoFence things → HaveNo
 have-closed [] id all = tt
 have-closed (x ∷ xs) id all = (ap is_made_fence (closed_same id x).content ∙ all.0, have-closed xs id all.1)
 
-have-make : (w : World) (owner label : ℕ) (c : Content) → is_made_fence c ≡ false → HaveNoFence w.things → HaveNoFence (make w owner label c).world.things
-have-make w owner label c other all = have-push w.things (record { label = label; id = w.next_id; owner = owner; content = c; is_open = true }) all other
+have-make : (w : World) (owner label : ℕ) (c : Content) → is_made_fence c ≡ false → HaveNoFence w.things
+    → HaveNoFence (make w owner label c).world.things
+have-make w owner label c other all = have-push w.things
+    (record { label = label; id = w.next_id; owner = owner; content = c; is_open = true }) all other
 
-have-make_unless : (w : World) (owner label : ℕ) (c : Content) (o : Option ℕ) → is_made_fence c ≡ false → HaveNoFence w.things → HaveNoFence (make_unless w owner label c o).world.things
+have-make_unless : (w : World) (owner label : ℕ) (c : Content) (o : Option ℕ) → is_made_fence c ≡ false → HaveNoFence w.things
+    → HaveNoFence (make_unless w owner label c o).world.things
 have-make_unless w owner label c None other all = have-make w owner label c other all
 have-make_unless w owner label c (Some n) other all = all
 
-have-add_fb : (w : World) (client label : ℕ) (o : Option BufferInfo) → HaveNoFence w.things → HaveNoFence (add_fb w client label o).world.things
+have-add_fb : (w : World) (client label : ℕ) (o : Option BufferInfo) → HaveNoFence w.things
+    → HaveNoFence (add_fb w client label o).world.things
 have-add_fb w client label None all = all
 have-add_fb w client label (Some b) all = have-make w client label _ refl all
 
-have-close_unless : (w : World) (thing : Option Thing) (o : Option ℕ) → HaveNoFence w.things → HaveNoFence (close_unless w thing o).world.things
+have-close_unless : (w : World) (thing : Option Thing) (o : Option ℕ) → HaveNoFence w.things
+    → HaveNoFence (close_unless w thing o).world.things
 have-close_unless w None None all = all
 have-close_unless w (Some u) None all = have-closed w.things u.id all
 have-close_unless w thing (Some n) all = all
@@ -85,14 +94,18 @@ abbrev pub makes_fence : Command → Bool
 makes_fence (command.Fence label) = true
 makes_fence _ = false
 
-have-execute : (t : Topology) (w : World) (client : ℕ) (c : Command) → is_atomic c ≡ false → makes_fence c ≡ false → HaveNoFence w.things → HaveNoFence (execute t w client c).world.things
+have-execute : (t : Topology) (w : World) (client : ℕ) (c : Command) → is_atomic c ≡ false → makes_fence c ≡ false → HaveNoFence w.things
+    → HaveNoFence (execute t w client c).world.things
 unfolding execute
-have-execute t w client (command.Buffer label width height format pattern) other free all = have-make_unless w client label (content.Buffer width height format pattern) (new_buffer_refusal w.things width height format) refl all
+have-execute t w client (command.Buffer label width height format pattern) other free all = have-make_unless w client label
+    (content.Buffer width height format pattern) (new_buffer_refusal w.things width height format) refl all
 have-execute t w client (command.AddFb label buffer) other free all = have-add_fb w client label (buffer_of w.things client buffer) all
 have-execute t w client (command.Mode label m) other free all = have-make w client label (content.Mode m) refl all
 have-execute t w client (command.Blob label bytes) other free all = have-make w client label (content.Blob bytes) refl all
-have-execute t w client (command.Destroy label) other free all = have-close_unless w (thing_labelled w.things label) (destroy_refusal client (thing_labelled w.things label)) all
-have-execute t w client (command.CloseFb label) other free all = have-close_unless w (thing_labelled w.things label) (close_refusal client (thing_labelled w.things label)) all
+have-execute t w client (command.Destroy label) other free all = have-close_unless w (thing_labelled w.things label)
+    (destroy_refusal client (thing_labelled w.things label)) all
+have-execute t w client (command.CloseFb label) other free all = have-close_unless w (thing_labelled w.things label)
+    (close_refusal client (thing_labelled w.things label)) all
 have-execute t w client (command.Fence label) other free all = absurd (false≢true (sym free))
 have-execute t w client (command.Signal label) other free all = have-signal w (signal_refusal (thing_labelled w.things label)) all
 have-execute t w client (command.Atomic r) other free all = absurd (false≢true (sym other))
@@ -102,9 +115,11 @@ have-out_fence : (client : ℕ) (w : World) (o : Option ℕ) → HaveNoFence w.t
 have-out_fence client w None all = all
 have-out_fence client w (Some label) all = have-make w client label content.OutFence refl all
 
-have-out_fences : (client : ℕ) (assigns : List Assign) (w : World) (crtcs : List ℕ) → HaveNoFence w.things → HaveNoFence (make_out_fences client assigns w crtcs).things
+have-out_fences : (client : ℕ) (assigns : List Assign) (w : World) (crtcs : List ℕ) → HaveNoFence w.things
+    → HaveNoFence (make_out_fences client assigns w crtcs).things
 have-out_fences client assigns w [] all = all
-have-out_fences client assigns w (c ∷ cs) all = have-out_fences client assigns (make_out_fence client w (out_fence_label assigns c)) cs (have-out_fence client w (out_fence_label assigns c) all)
+have-out_fences client assigns w (c ∷ cs) all = have-out_fences client assigns (make_out_fence client w (out_fence_label assigns c)) cs
+    (have-out_fence client w (out_fence_label assigns c) all)
 
 -- a script without a `fence` command
 abbrev pub HasNoFence : Script → Type 0
@@ -112,8 +127,10 @@ HasNoFence s = (e : Entry) (c : Command) → command_of s e ≡ Some c → makes
 
 no_fence_kept : (s : Script) → HasNoFence s → IsKept s (λ d ls. HaveNoFence d.world.things)
 no_fence_kept s none =
-    world_kept s (λ w. HaveNoFence w.things) (λ m client c is other all. have-execute s.topology m.device.world client c other (none _ c is) all)
-    (λ w client r all. have-out_fences client r.assigns (record w { values = after w r; commits = w.commits + 1 }) (ids_of s.topology Crtc) all)
+    world_kept s (λ w. HaveNoFence w.things) (λ m client c is other all. have-execute s.topology m.device.world client c other (none _ c is)
+    all)
+    (λ w client r all. have-out_fences client r.assigns (record w { values = after w r; commits = w.commits + 1 }) (ids_of s.topology Crtc)
+    all)
 
 pub never_dead : (s : Script) → IsPlainScript s → HasNoFence s → (h : List Step) → is_history s h ≡ true → is_dead s (at s h) ≡ false
 never_dead s plain none h is =
@@ -190,16 +207,24 @@ generated-is seed n e c is = go (from_one (generated seed n).clients e.client) r
     of_client commands (inr (inl same)) = subst (AllByRecursion IsGenerated) same (commands-are 1 (drawn_from 1 seed n))
     of_client commands (inr (inr never)) = absurd never
 
-    go : (o : Option (List Command)) → from_one (generated seed n).clients e.client ≡ o → option_and_then (λ commands. from_one commands e.command) o ≡ Some c → IsGenerated c
+    go : (o : Option (List Command)) → from_one (generated seed n).clients e.client ≡ o
+        → option_and_then (λ commands. from_one commands e.command) o ≡ Some c → IsGenerated c
     go None found is = absurd cc
-    go (Some commands) found is = is-at commands c (of_client commands (from_one-in (generated seed n).clients e.client commands found)) (from_one-in commands e.command c is)
+    go (Some commands) found is = is-at commands c (of_client commands (from_one-in (generated seed n).clients e.client commands found))
+        (from_one-in commands e.command c is)
 
 generated-device : IsDevice generated_device
-generated-device = record { profile = refl; legal = refl; kinds = All-from_recursion HasPlaneKind generated_device.planes (omega arith, (omega arith, tt)) }
+generated-device = record {
+  profile = refl;
+  legal = refl;
+  kinds = All-from_recursion HasPlaneKind generated_device.planes
+      (omega arith, (omega arith, tt));
+}
 
 pub generated-plain : (seed n : ℕ) → IsPlainScript (generated seed n)
 generated-plain seed n = record { device = generated-device; modes = λ e c f. (generated-is seed n e c f).modes }
 
-pub generated_never_dead : (seed n : ℕ) (h : List Step) → is_history (generated seed n) h ≡ true → is_dead (generated seed n) (at (generated seed n) h) ≡ false
+pub generated_never_dead : (seed n : ℕ) (h : List Step) → is_history (generated seed n) h ≡ true
+    → is_dead (generated seed n) (at (generated seed n) h) ≡ false
 generated_never_dead seed n h is =
     never_dead (generated seed n) (generated-plain seed n) (λ e c f. (generated-is seed n e c f).no_fence) h is

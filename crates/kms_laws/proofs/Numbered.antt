@@ -20,11 +20,13 @@ touches_of t o z = touches t z.world z.request o
 names_of : ℕ → Commit → Bool
 names_of c z = names (old_values z) (new_values z) z.request.assigns c
 
-pub names_old : (t : Topology) (x : Commit) (cs : List Commit) (k c : ℕ) → k < length cs → commit_names t (x ∷ cs) k c ≡ commit_names t cs k c
+pub names_old : (t : Topology) (x : Commit) (cs : List Commit) (k c : ℕ) → k < length cs → commit_names t (x ∷ cs) k c
+    ≡ commit_names t cs k c
 unfolding commit_names names_of
 names_old t x cs k c l = ap (names_of c) (commit_old t x cs k l)
 
-pub names_new : (t : Topology) (x : Commit) (cs : List Commit) (c : ℕ) → commit_names t (x ∷ cs) (length cs) c ≡ names x.world.values (new_values x) x.request.assigns c
+pub names_new : (t : Topology) (x : Commit) (cs : List Commit) (c : ℕ) → commit_names t (x ∷ cs) (length cs) c
+    ≡ names x.world.values (new_values x) x.request.assigns c
 unfolding commit_names names_of
 names_new t x cs c = ap (names_of c) (commit_new t x cs)
 
@@ -33,7 +35,8 @@ unfolding plane_after new_plane
 plane_old t x cs zero p l = refl
 plane_old t x cs (suc k) p l = ap (λ (z : Commit). plane_words (plane_at z.world.things (new_values z) p)) (commit_old t x cs k l)
 
-pub plane_new : (t : Topology) (x : Commit) (cs : List Commit) (p : ℕ) → plane_after t (x ∷ cs) (suc (length cs)) p ≡ plane_words (plane_at x.world.things (new_values x) p)
+pub plane_new : (t : Topology) (x : Commit) (cs : List Commit) (p : ℕ) → plane_after t (x ∷ cs) (suc (length cs)) p
+    ≡ plane_words (plane_at x.world.things (new_values x) p)
 unfolding plane_after new_plane
 plane_new t x cs p = ap (λ (z : Commit). plane_words (plane_at z.world.things (new_values z) p)) (commit_new t x cs)
 
@@ -42,7 +45,8 @@ unfolding crtc_after new_crtc new_connector
 crtc_old t x cs zero c l = refl
 crtc_old t x cs (suc k) c l = ap (λ (z : Commit). words_at t z.world.things (new_values z) c) (commit_old t x cs k l)
 
-pub crtc_new : (t : Topology) (x : Commit) (cs : List Commit) (c : ℕ) → crtc_after t (x ∷ cs) (suc (length cs)) c ≡ words_at t x.world.things (new_values x) c
+pub crtc_new : (t : Topology) (x : Commit) (cs : List Commit) (c : ℕ) → crtc_after t (x ∷ cs) (suc (length cs)) c
+    ≡ words_at t x.world.things (new_values x) c
 unfolding crtc_after new_crtc new_connector
 crtc_new t x cs c = ap (λ (z : Commit). words_at t z.world.things (new_values z) c) (commit_new t x cs)
 

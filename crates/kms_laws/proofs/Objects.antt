@@ -5,7 +5,8 @@ use Rattle.std.proofs.lemmas.Bool.{or_right, eq-eqb, lt-ltb, cond-true}
 use Rattle.kms_model.specs.declared.objects.Kind.TheVariants.{Crtc, Plane, Conn}
 use Rattle.kms_model.specs.declared.objects.Topology.{Topology}
 use Rattle.kms_model.specs.Device.Objects.{first_id, object_id, ids_of, kind_of, index_of}
-use Rattle.kms_model.specs.Machine.Commits.{commit_at, commit_names, commit_touches, commit_concerns, is_on_before_or_after, lockable, registered}
+use Rattle.kms_model.specs.Machine.Commits.{commit_at, commit_names, commit_touches, commit_concerns, is_on_before_or_after, lockable}
+use Rattle.kms_model.specs.Machine.Commits.{registered}
 use Rattle.kms_model.specs.Machine.State.{Commit}
 use Rattle.kms_model.specs.Request.Touched.{touches, touches_of_kind, sets}
 use Rattle.kms_model.proofs.Items.{IsIn, IsObject, ids-in}
@@ -45,13 +46,15 @@ pub plane_registered : (t : Topology) (p : ℕ) → IsIn p (ids_of t Plane) → 
 plane_registered t p is = in_right (ids_of t Crtc) (ids_of t Plane) p is
 
 -- a CRTC that a commit names is touched by it
-pub names-touches : (t : Topology) (cs : List Commit) (k c : ℕ) → HasFewObjects t → IsIn c (ids_of t Crtc) → commit_names t cs k c ≡ true → commit_touches t cs k c ≡ true
+pub names-touches : (t : Topology) (cs : List Commit) (k c : ℕ) → HasFewObjects t → IsIn c (ids_of t Crtc) → commit_names t cs k c ≡ true
+    → commit_touches t cs k c ≡ true
 unfolding commit_names commit_touches touches
 names-touches t cs k c few is h =
     ap (λ kind. touches_of_kind kind t (commit_at t cs k).world (commit_at t cs k).request c) (crtc_kind t c few is)
     ∙ or_right (sets (commit_at t cs k).request.assigns c) _ h
 
 -- and it concerns itself
-pub concerns_self : (t : Topology) (cs : List Commit) (k c : ℕ) → HasFewObjects t → IsIn c (ids_of t Crtc) → commit_concerns t cs k c c ≡ true
+pub concerns_self : (t : Topology) (cs : List Commit) (k c : ℕ) → HasFewObjects t → IsIn c (ids_of t Crtc) → commit_concerns t cs k c c
+    ≡ true
 unfolding commit_concerns
 concerns_self t cs k c few is = ap (λ kind. is_on_before_or_after kind (commit_at t cs k) c c) (crtc_kind t c few is) ∙ eq-eqb c c refl

@@ -45,11 +45,14 @@ opened u = record u { is_open = true }
 abbrev pub all_open : World → World
 all_open w = record w { things = map opened w.things }
 
-labelled-open : (things : List Thing) (label : ℕ) → thing_labelled (map opened things) label ≡ option_map opened (thing_labelled things label)
+labelled-open : (things : List Thing) (label : ℕ) → thing_labelled (map opened things) label
+    ≡ option_map opened (thing_labelled things label)
 labelled-open [] label = refl
-labelled-open (u ∷ us) label = ap (λ o. if u.label == label then Some (opened u) else o) (labelled-open us label) ∙ by_test (u.label == label)
+labelled-open (u ∷ us) label = ap (λ o. if u.label == label then Some (opened u) else o) (labelled-open us label) ∙ by_test
+    (u.label == label)
   where
-    by_test : (b : Bool) → (if b then Some (opened u) else option_map opened (thing_labelled us label)) ≡ option_map opened (if b then Some u else thing_labelled us label)
+    by_test : (b : Bool) → (if b then Some (opened u) else option_map opened (thing_labelled us label))
+        ≡ option_map opened (if b then Some u else thing_labelled us label)
     by_test true = refl
     by_test false = refl
 
@@ -61,17 +64,25 @@ seen-open : (things : List Thing) (number : ℤ) → IsSeenAlike things (map ope
 seen-open [] number = record { fb = refl; mode = refl; gamma = refl }
 seen-open (u ∷ us) number =
     let rest : IsSeenAlike us (map opened us) number = seen-open us number in
-    record { fb = fb (int_eq (pos u.id) number) rest; mode = mode (int_eq (pos u.id) number) rest; gamma = gamma (int_eq (pos u.id) number) rest }
+    record {
+      fb = fb (int_eq (pos u.id) number) rest;
+      mode = mode (int_eq (pos u.id) number) rest;
+      gamma = gamma (int_eq (pos u.id) number)
+          rest;
+    }
   where
-    fb : (b : Bool) → IsSeenAlike us (map opened us) number → framebuffer_of (if b then Some u else thing_numbered us number) ≡ framebuffer_of (if b then Some (opened u) else thing_numbered (map opened us) number)
+    fb : (b : Bool) → IsSeenAlike us (map opened us) number → framebuffer_of (if b then Some u else thing_numbered us number)
+        ≡ framebuffer_of (if b then Some (opened u) else thing_numbered (map opened us) number)
     fb true rest = refl
     fb false rest = rest.fb
 
-    mode : (b : Bool) → IsSeenAlike us (map opened us) number → mode_of (if b then Some u else thing_numbered us number) ≡ mode_of (if b then Some (opened u) else thing_numbered (map opened us) number)
+    mode : (b : Bool) → IsSeenAlike us (map opened us) number → mode_of (if b then Some u else thing_numbered us number)
+        ≡ mode_of (if b then Some (opened u) else thing_numbered (map opened us) number)
     mode true rest = refl
     mode false rest = rest.mode
 
-    gamma : (b : Bool) → IsSeenAlike us (map opened us) number → gamma_of (if b then Some u else thing_numbered us number) ≡ gamma_of (if b then Some (opened u) else thing_numbered (map opened us) number)
+    gamma : (b : Bool) → IsSeenAlike us (map opened us) number → gamma_of (if b then Some u else thing_numbered us number)
+        ≡ gamma_of (if b then Some (opened u) else thing_numbered (map opened us) number)
     gamma true rest = refl
     gamma false rest = rest.gamma
 
@@ -87,7 +98,8 @@ sound-open t w sound =
     let alike = alike-open t w.things w.values in
     record {
       held = are_held-kept t w.things (map opened w.things) w.values w.values
-          (λ object p row held. held-seen t w.things (map opened w.things) p.id p.range (world.value w.values object p.id) (seen-open w.things (world.value w.values object p.id)) held) sound.held;
+          (λ object p row held. held-seen t w.things (map opened w.things) p.id p.range (world.value w.values object p.id)
+          (seen-open w.things (world.value w.values object p.id)) held) sound.held;
       accepted = verdict-empty t (all_open w)
           (sym (late-seen t w.things (map opened w.things) w.values w.values empty_request alike alike
           (plain_held-from t w.things w.values sound.held)) ∙ late-empty t w sound.accepted);
@@ -110,12 +122,14 @@ gamma-open things values c = sym (seen-open things (world.value values c GAMMA_L
 plane-open : (things : List Thing) (values : List Setting) (p : ℕ) → plane_at things values p ≡ plane_at (map opened things) values p
 plane-open things values p = rw ((seen-open things (world.value values p FB_ID)).fb) refl
 
-crtc-open : (t : Topology) (things : List Thing) (values : List Setting) (c : ℕ) → crtc_state_at t things values c ≡ crtc_state_at t (map opened things) values c
+crtc-open : (t : Topology) (things : List Thing) (values : List Setting) (c : ℕ) → crtc_state_at t things values c
+    ≡ crtc_state_at t (map opened things) values c
 crtc-open t things values c =
     let state = crtc_state_at t things values c in
     sym (λ i. state_with state.active (mode-open things values c i) (gamma-open things values c i) state.planes state.conns)
 
-pub agrees-open : (t : Topology) (things : List Thing) (values : List Setting) (d : Duplicates) → AgreesOld t things values d → AgreesOld t (map opened things) values d
+pub agrees-open : (t : Topology) (things : List Thing) (values : List Setting) (d : Duplicates) → AgreesOld t things values d
+    → AgreesOld t (map opened things) values d
 agrees-open t things values d old = record {
   crtcs = λ index both e.
       old.crtcs index both e
@@ -139,19 +153,25 @@ number-open things (value.Named label) = id-open things label
 number-open things (value.New label) = refl
 number-open things (value.Crtc index) = refl
 
-apply-open : (things : List Thing) (values : List Setting) (assigns : List Assign) → apply (map opened things) values assigns ≡ apply things values assigns
+apply-open : (things : List Thing) (values : List Setting) (assigns : List Assign) → apply (map opened things) values assigns
+    ≡ apply things values assigns
 apply-open things values [] = refl
 apply-open things values (a ∷ assigns) =
     apply-open things (assign (map opened things) values a) assigns
-    ∙ ap (λ n. apply things (if is_kept (prop_of a.prop) then put values (object_of a) (prop_of a.prop) n else values) assigns) (number-open things a.value)
+    ∙ ap (λ n. apply things (if is_kept (prop_of a.prop) then put values (object_of a) (prop_of a.prop) n else values) assigns)
+    (number-open things a.value)
 
-modeset-open : (t : Topology) (things : List Thing) (old new : List Setting) (c : ℕ) → needs_modeset t (map opened things) old new c ≡ needs_modeset t things old new c
+modeset-open : (t : Topology) (things : List Thing) (old new : List Setting) (c : ℕ) → needs_modeset t (map opened things) old new c
+    ≡ needs_modeset t things old new c
 modeset-open t things old new c =
-    (λ i. not (same_mode (mode-open things old c i) (mode-open things new c i)) || (not (int_eq (world.value old c ACTIVE) (world.value new c ACTIVE)) || list_any (is_rerouted old new c) (ids_of t Conn)))
+    (λ i. not (same_mode (mode-open things old c i) (mode-open things new c i))
+    || (not (int_eq (world.value old c ACTIVE) (world.value new c ACTIVE)) || list_any (is_rerouted old new c) (ids_of t Conn)))
 
-affected-open : (t : Topology) (things : List Thing) (old new : List Setting) (o : ℕ) → is_affected t (map opened things) old new o ≡ is_affected t things old new o
+affected-open : (t : Topology) (things : List Thing) (old new : List Setting) (o : ℕ) → is_affected t (map opened things) old new o
+    ≡ is_affected t things old new o
 affected-open t things old new o =
-    list_any-same (λ c. needs_modeset t (map opened things) old new c && moves_on old new c o) (λ c. needs_modeset t things old new c && moves_on old new c o) (ids_of t Crtc)
+    list_any-same (λ c. needs_modeset t (map opened things) old new c && moves_on old new c o)
+    (λ c. needs_modeset t things old new c && moves_on old new c o) (ids_of t Crtc)
     (λ c is. ap (λ b. b && moves_on old new c o) (modeset-open t things old new c))
 
 kind-open : (k : Kind) (t : Topology) (w : World) (r : Request) (o : ℕ) → touches_of_kind k t (all_open w) r o ≡ touches_of_kind k t w r o
@@ -190,5 +210,6 @@ reaches-open t w r o =
     ∙ (λ i. touches t w (record r { assigns = filter (λ a. is_none (own_refusal t (λ label. any-open w label i) a)) r.assigns }) o)
 
 -- what a request that is accepted there touches there is in its reach
-pub open-reach : (t : Topology) (w : World) (r : Request) (o : ℕ) → early_in t (all_open w) r ≡ None → touches t (all_open w) r o ≡ reaches t w r o
+pub open-reach : (t : Topology) (w : World) (r : Request) (o : ℕ) → early_in t (all_open w) r ≡ None → touches t (all_open w) r o
+    ≡ reaches t w r o
 open-reach t w r o early = sym (reach-is t (all_open w) r o early) ∙ reaches-open t w r o

@@ -1,5 +1,6 @@
 -- The present world, the journal and the commits so far.
-use Rattle.std.proofs.Common.{◌≡◌, ℕ, suc, ◌+◌, ◌<◌, List, [], ◌∷◌, ◌++◌, length, map, Bool, true, false, Some, None, refl, sym, ap, ◌∙◌, subst, arith, add-one, inl, inr, ◌⊎◌, ⊎_elim, append_assoc, append-nil}
+use Rattle.std.proofs.Common.{◌≡◌, ℕ, suc, ◌+◌, ◌<◌, List, [], ◌∷◌, ◌++◌, length, map, Bool, true, false, Some, None, refl, sym, ap, ◌∙◌}
+use Rattle.std.proofs.Common.{subst, arith, add-one, inl, inr, ◌⊎◌, ⊎_elim, append_assoc, append-nil}
 use Rattle.std.specs.Prelude.{if◌then◌else◌, reverse}
 use Rattle.std.proofs.lemmas.Bool.{cond-false, cases_lt, false≢true}
 use Rattle.std.proofs.lemmas.List.{map-append, reverse-append}
@@ -13,7 +14,8 @@ use Rattle.kms_model.specs.declared.scripts.Script.{Script}
 use Rattle.kms_model.specs.declared.worlds.World.{World}
 use Rattle.kms_model.specs.Device.Execution.{Executed, answer, commit, committed, execute}
 use Rattle.kms_model.specs.Device.Objects.{ids_of}
-use Rattle.kms_model.specs.Device.Serial.{Entry, Pictured, command_of, execute_in, is_accepted, pictured, serial, serial_from, show, show_from, shown_by, shown_in}
+use Rattle.kms_model.specs.Device.Serial.{Entry, Pictured, command_of, execute_in, is_accepted, pictured, serial, serial_from, show}
+use Rattle.kms_model.specs.Device.Serial.{show_from, shown_by, shown_in}
 use Rattle.kms_model.specs.Device.Sound.{IsLawful}
 use Rattle.kms_model.specs.Device.States.{crtc_at, plane_at}
 use Rattle.kms_model.specs.Device.World.{start}
@@ -57,7 +59,8 @@ pub record Present (s : Script) (w : World) (journal : List Entry) (cs : List Co
   pub states : StatesStand s.topology w cs
   pub count : w.commits ≡ length cs
   pub is_serial : serial s (reverse journal) ≡ w
-  pub is_shown : (c : ℕ) → IsIn c (ids_of s.topology Crtc) → map pair_of (show s (reverse journal) c) ≡ reverse (shown s.topology cs c (length cs))
+  pub is_shown : (c : ℕ) → IsIn c (ids_of s.topology Crtc) → map pair_of (show s (reverse journal) c)
+      ≡ reverse (shown s.topology cs c (length cs))
 
 -- One entry more
 
@@ -80,11 +83,14 @@ show_from-push s c w es e =
 pub reverse_more : {A : Type 0} (x : A) (xs : List A) → reverse (x ∷ xs) ≡ reverse xs ++ x ∷ []
 reverse_more x xs = reverse-append (x ∷ []) xs
 
-serial_more : (s : Script) (w : World) (journal : List Entry) (e : Entry) (c : Command) → serial s (reverse journal) ≡ w → command_of s e ≡ Some c → serial s (reverse (e ∷ journal)) ≡ (execute s.topology w e.client c).world
+serial_more : (s : Script) (w : World) (journal : List Entry) (e : Entry) (c : Command) → serial s (reverse journal) ≡ w → command_of s e
+    ≡ Some c → serial s (reverse (e ∷ journal)) ≡ (execute s.topology w e.client c).world
 serial_more s w journal e c is_serial is =
-    ap (serial s) (reverse_more e journal) ∙ serial_last s (start s.topology) (reverse journal) e ∙ (λ i. execute_in s.topology (is_serial i) e.client (is i))
+    ap (serial s) (reverse_more e journal) ∙ serial_last s (start s.topology) (reverse journal) e ∙
+    (λ i. execute_in s.topology (is_serial i) e.client (is i))
 
-show_more : (s : Script) (w : World) (journal : List Entry) (e : Entry) (c : Command) (crtc : ℕ) (pairs : List CommitPicture) → serial s (reverse journal) ≡ w → command_of s e ≡ Some c → map pair_of (show s (reverse journal) crtc) ≡ pairs
+show_more : (s : Script) (w : World) (journal : List Entry) (e : Entry) (c : Command) (crtc : ℕ) (pairs : List CommitPicture)
+    → serial s (reverse journal) ≡ w → command_of s e ≡ Some c → map pair_of (show s (reverse journal) crtc) ≡ pairs
     → map pair_of (show s (reverse (e ∷ journal)) crtc) ≡ pairs ++ map pair_of (shown_in s.topology crtc w e.client (Some c))
 show_more s w journal e c crtc pairs is_serial is before =
     ap (λ z. map pair_of (show s z crtc)) (reverse_more e journal)
@@ -92,15 +98,18 @@ show_more s w journal e c crtc pairs is_serial is before =
     ∙ map-append pair_of (show s (reverse journal) crtc) (shown_in s.topology crtc (serial s (reverse journal)) e.client (command_of s e))
     ∙ (λ i. before i ++ map pair_of (shown_in s.topology crtc (is_serial i) e.client (is i)))
 
-shown_in-none : (t : Topology) (crtc : ℕ) (w : World) (client : ℕ) (c : Command) → shown_by t crtc w.values c (execute t w client c) ≡ None → shown_in t crtc w client (Some c) ≡ []
+shown_in-none : (t : Topology) (crtc : ℕ) (w : World) (client : ℕ) (c : Command) → shown_by t crtc w.values c (execute t w client c) ≡ None
+    → shown_in t crtc w client (Some c) ≡ []
 shown_in-none t crtc w client c e = rw e refl
 
-shown_in-some : (t : Topology) (crtc : ℕ) (w : World) (client : ℕ) (c : Command) (p : Pictured) → shown_by t crtc w.values c (execute t w client c) ≡ Some p → shown_in t crtc w client (Some c) ≡ p ∷ []
+shown_in-some : (t : Topology) (crtc : ℕ) (w : World) (client : ℕ) (c : Command) (p : Pictured)
+    → shown_by t crtc w.values c (execute t w client c) ≡ Some p → shown_in t crtc w client (Some c) ≡ p ∷ []
 shown_in-some t crtc w client c p e = rw e refl
 
 -- A command that is no request
 
-other_shows : (t : Topology) (crtc : ℕ) (w : World) (client : ℕ) (c : Command) → is_atomic c ≡ false → shown_by t crtc w.values c (execute t w client c) ≡ None
+other_shows : (t : Topology) (crtc : ℕ) (w : World) (client : ℕ) (c : Command) → is_atomic c ≡ false
+    → shown_by t crtc w.values c (execute t w client c) ≡ None
 other_shows t crtc w client (command.Buffer label width height format pattern) other = refl
 other_shows t crtc w client (command.AddFb label buffer) other = refl
 other_shows t crtc w client (command.Mode label m) other = refl
@@ -118,7 +127,8 @@ states_like t w v cs like states = record {
   crtc = λ c is. words_like t w v c like is ∙ states.crtc c is;
 }
 
-pub made_present : (s : Script) (w : World) (journal : List Entry) (cs : List Commit) (e : Entry) (c : Command) → Present s w journal cs → command_of s e ≡ Some c → KeepsModes c → is_atomic c ≡ false
+pub made_present : (s : Script) (w : World) (journal : List Entry) (cs : List Commit) (e : Entry) (c : Command) → Present s w journal cs
+    → command_of s e ≡ Some c → KeepsModes c → is_atomic c ≡ false
     → Present s (execute s.topology w e.client c).world (e ∷ journal) cs
 made_present s w journal cs e c P is keeps other =
     let t = s.topology in
@@ -133,37 +143,46 @@ made_present s w journal cs e c P is keeps other =
       is_serial = serial_more s w journal e c P.is_serial is;
       is_shown = λ crtc i.
           show_more s w journal e c crtc (reverse (shown t cs crtc (length cs))) P.is_serial is (P.is_shown crtc i)
-          ∙ ap (λ z. reverse (shown t cs crtc (length cs)) ++ map pair_of z) (shown_in-none t crtc w e.client c (other_shows t crtc w e.client c other))
+          ∙ ap (λ z. reverse (shown t cs crtc (length cs)) ++ map pair_of z)
+          (shown_in-none t crtc w e.client c (other_shows t crtc w e.client c other))
           ∙ append-nil (reverse (shown t cs crtc (length cs)));
     }
 
-pub denied_present : (s : Script) (w : World) (journal : List Entry) (cs : List Commit) (client : ℕ) (c : Command) → Present s w journal cs → is_atomic c ≡ false → is_accepted (execute s.topology w client c).reply ≡ false
+pub denied_present : (s : Script) (w : World) (journal : List Entry) (cs : List Commit) (client : ℕ) (c : Command) → Present s w journal cs
+    → is_atomic c ≡ false → is_accepted (execute s.topology w client c).reply ≡ false
     → Present s (execute s.topology w client c).world journal cs
-denied_present s w journal cs client c P other denied = subst (λ v. Present s v journal cs) (sym (unaccepted s.topology 0 w client c denied).0) P
+denied_present s w journal cs client c P other denied = subst (λ v. Present s v journal cs)
+    (sym (unaccepted s.topology 0 w client c denied).0) P
 
 -- A commit more
 
 pub is_old : (k n : ℕ) → k < suc n → (k < n) ⊎ (n ≡ k)
 is_old k n l = ⊎_elim (λ (lt : k < n). inl lt) (λ ge. inr (omega arith)) (cases_lt k n)
 
-module _ (t : Topology) (x : Commit) (cs : List Commit) (at : IsRequestAt t x.world x.request) (S : StatesStand t x.world cs) (C : CommitsStand t cs) where
+module _ (t : Topology) (x : Commit) (cs : List Commit) (at : IsRequestAt t x.world x.request) (S : StatesStand t x.world cs)
+    (C : CommitsStand t cs) where
   words_crtc : (things : List Thing) (values : List Setting) (p : ℕ) → (plane_words (plane_at things values p)).crtc ≡ crtc_at values p
   unfolding plane_words
   words_crtc things values p = refl
 
-  now_plane : (p : ℕ) → IsIn p (ids_of t Plane) → plane_words (plane_at x.world.things x.world.values p) ≡ plane_after t (x ∷ cs) (length cs) p
+  now_plane : (p : ℕ) → IsIn p (ids_of t Plane) → plane_words (plane_at x.world.things x.world.values p)
+      ≡ plane_after t (x ∷ cs) (length cs) p
   now_plane p is = S.plane p is ∙ sym (plane_old t x cs (length cs) p (omega arith))
 
   now_crtc : (c : ℕ) → IsIn c (ids_of t Crtc) → words_at t x.world.things x.world.values c ≡ crtc_after t (x ∷ cs) (length cs) c
   now_crtc c is = S.crtc c is ∙ sym (crtc_old t x cs (length cs) c (omega arith))
 
-  plane_frame_new : (p : ℕ) → IsIn p (ids_of t Plane) → commit_touches t (x ∷ cs) (length cs) p ≡ false → plane_after t (x ∷ cs) (suc (length cs)) p ≡ plane_after t (x ∷ cs) (length cs) p
-  plane_frame_new p is un = plane_new t x cs p ∙ ap plane_words (plane_frame t x.world x.request at p is (sym (touches_new t x cs p) ∙ un)) ∙ now_plane p is
+  plane_frame_new : (p : ℕ) → IsIn p (ids_of t Plane) → commit_touches t (x ∷ cs) (length cs) p ≡ false
+      → plane_after t (x ∷ cs) (suc (length cs)) p ≡ plane_after t (x ∷ cs) (length cs) p
+  plane_frame_new p is un = plane_new t x cs p ∙ ap plane_words (plane_frame t x.world x.request at p is (sym (touches_new t x cs p) ∙ un))
+      ∙ now_plane p is
 
-  crtc_frame_new : (c : ℕ) → IsIn c (ids_of t Crtc) → commit_names t (x ∷ cs) (length cs) c ≡ false → crtc_after t (x ∷ cs) (suc (length cs)) c ≡ crtc_after t (x ∷ cs) (length cs) c
+  crtc_frame_new : (c : ℕ) → IsIn c (ids_of t Crtc) → commit_names t (x ∷ cs) (length cs) c ≡ false
+      → crtc_after t (x ∷ cs) (suc (length cs)) c ≡ crtc_after t (x ∷ cs) (length cs) c
   crtc_frame_new c is un = crtc_new t x cs c ∙ crtc_frame t x.world x.request at c (sym (names_new t x cs c) ∙ un) ∙ now_crtc c is
 
-  pub moved_new_crtc : (p c : ℕ) → IsIn p (ids_of t Plane) → ((plane_after t (x ∷ cs) (length cs) p).crtc ≡ c) ⊎ ((plane_after t (x ∷ cs) (suc (length cs)) p).crtc ≡ c)
+  pub moved_new_crtc : (p c : ℕ) → IsIn p (ids_of t Plane) → ((plane_after t (x ∷ cs) (length cs) p).crtc ≡ c)
+      ⊎ ((plane_after t (x ∷ cs) (suc (length cs)) p).crtc ≡ c)
       → (crtc_at x.world.values p ≡ c) ⊎ (crtc_at (new_values x) p ≡ c)
   moved_new_crtc p c is on =
       ⊎_elim
@@ -175,13 +194,17 @@ module _ (t : Topology) (x : Commit) (cs : List Commit) (at : IsRequestAt t x.wo
   commits_more = record {
     plane_frame = λ k p l is un.
         ⊎_elim
-        (λ old. plane_old t x cs (suc k) p old ∙ C.plane_frame k p old is (sym (touches_old t x cs k p old) ∙ un) ∙ sym (plane_old t x cs k p (omega arith)))
-        (λ (same : length cs ≡ k). subst (λ z. commit_touches t (x ∷ cs) z p ≡ false → plane_after t (x ∷ cs) (suc z) p ≡ plane_after t (x ∷ cs) z p) same (plane_frame_new p is) un)
+        (λ old. plane_old t x cs (suc k) p old ∙ C.plane_frame k p old is (sym (touches_old t x cs k p old) ∙ un) ∙ sym
+        (plane_old t x cs k p (omega arith)))
+        (λ (same : length cs ≡ k). subst (λ z. commit_touches t (x ∷ cs) z p ≡ false → plane_after t (x ∷ cs) (suc z) p
+        ≡ plane_after t (x ∷ cs) z p) same (plane_frame_new p is) un)
         (is_old k (length cs) l);
     crtc_frame = λ k c l is un.
         ⊎_elim
-        (λ old. crtc_old t x cs (suc k) c old ∙ C.crtc_frame k c old is (sym (names_old t x cs k c old) ∙ un) ∙ sym (crtc_old t x cs k c (omega arith)))
-        (λ (same : length cs ≡ k). subst (λ z. commit_names t (x ∷ cs) z c ≡ false → crtc_after t (x ∷ cs) (suc z) c ≡ crtc_after t (x ∷ cs) z c) same (crtc_frame_new c is) un)
+        (λ old. crtc_old t x cs (suc k) c old ∙ C.crtc_frame k c old is (sym (names_old t x cs k c old) ∙ un) ∙ sym
+        (crtc_old t x cs k c (omega arith)))
+        (λ (same : length cs ≡ k). subst (λ z. commit_names t (x ∷ cs) z c ≡ false → crtc_after t (x ∷ cs) (suc z) c
+        ≡ crtc_after t (x ∷ cs) z c) same (crtc_frame_new c is) un)
         (is_old k (length cs) l);
     moved = λ k p c l ip ic touch on.
         ⊎_elim
@@ -193,24 +216,29 @@ module _ (t : Topology) (x : Commit) (cs : List Commit) (at : IsRequestAt t x.wo
         (λ e. inr (ap (λ (w : PlaneWords). w.crtc) (sym (plane_old t x cs (suc k) p old)) ∙ e))
         on))
         (λ (same : length cs ≡ k).
-        subst (λ z. commit_touches t (x ∷ cs) z p ≡ true → ((plane_after t (x ∷ cs) z p).crtc ≡ c) ⊎ ((plane_after t (x ∷ cs) (suc z) p).crtc ≡ c) → commit_names t (x ∷ cs) z c ≡ true) same
-        (λ touch2 on2. names_new t x cs c ∙ moved_names t x.world x.request at p c ip (sym (touches_new t x cs p) ∙ touch2) (moved_new_crtc p c ip on2))
+        subst (λ z. commit_touches t (x ∷ cs) z p ≡ true → ((plane_after t (x ∷ cs) z p).crtc ≡ c)
+        ⊎ ((plane_after t (x ∷ cs) (suc z) p).crtc ≡ c) → commit_names t (x ∷ cs) z c ≡ true) same
+        (λ touch2 on2. names_new t x cs c ∙ moved_names t x.world x.request at p c ip (sym (touches_new t x cs p) ∙ touch2)
+        (moved_new_crtc p c ip on2))
         touch on)
         (is_old k (length cs) l);
   }
 
-pub reverse_or : {A : Type 0} (b : Bool) (y : A) (xs : List A) → reverse xs ++ (if b then y ∷ [] else []) ≡ reverse (if b then y ∷ xs else xs)
+pub reverse_or : {A : Type 0} (b : Bool) (y : A) (xs : List A) → reverse xs ++ (if b then y ∷ [] else [])
+    ≡ reverse (if b then y ∷ xs else xs)
 reverse_or true y xs = sym (reverse_more y xs)
 reverse_or false y xs = append-nil (reverse xs)
 
 -- what the device of one thread does with an accepted request that is no test
-committed-executed : (t : Topology) (w : World) (client : ℕ) (r : Request) → verdict t w r ≡ None → is_test r.flags ≡ false → execute t w client (command.Atomic r) ≡ committed t w client r
+committed-executed : (t : Topology) (w : World) (client : ℕ) (r : Request) → verdict t w r ≡ None → is_test r.flags ≡ false
+    → execute t w client (command.Atomic r) ≡ committed t w client r
 unfolding execute
 committed-executed t w client r none no_test =
     ap (commit t w client r) none ∙ cond-false (is_test r.flags) (answer w reply.Tested) (committed t w client r) no_test
 
 module _ (s : Script) (x : Commit) (journal : List Entry) (cs : List Commit) (e : Entry) (P : Present s x.world journal cs)
-    (is : command_of s e ≡ Some (command.Atomic x.request)) (none : verdict s.topology x.world x.request ≡ None) (no_test : is_test x.request.flags ≡ false) where
+    (is : command_of s e ≡ Some (command.Atomic x.request)) (none : verdict s.topology x.world x.request ≡ None)
+    (no_test : is_test x.request.flags ≡ false) where
   abbrev pub v : World
   v = (committed s.topology x.world e.client x.request).world
 
@@ -219,7 +247,8 @@ module _ (s : Script) (x : Commit) (journal : List Entry) (cs : List Commit) (e 
 
   pub follows : Follows s.topology w1 v
   follows =
-      follows-out_fences s.topology e.client x.request.assigns w1 (ids_of s.topology Crtc) (sound-apply s.topology x.world x.request (x.world.commits + 1) P.lawful none) P.kept
+      follows-out_fences s.topology e.client x.request.assigns w1 (ids_of s.topology Crtc)
+      (sound-apply s.topology x.world x.request (x.world.commits + 1) P.lawful none) P.kept
 
   pub executed-is : execute s.topology x.world e.client (command.Atomic x.request) ≡ committed s.topology x.world e.client x.request
   executed-is = committed-executed s.topology x.world e.client x.request none no_test
@@ -229,7 +258,8 @@ module _ (s : Script) (x : Commit) (journal : List Entry) (cs : List Commit) (e 
       (execution_keeps_lawful s.topology x.world e.client (command.Atomic x.request) P.lawful)
 
   new_framed : AreFramed v.things
-  new_framed = subst (λ (z : Executed). AreFramed z.world.things) executed-is (execution_keeps_framed s.topology x.world e.client (command.Atomic x.request) P.lawful.numbered.things P.framed)
+  new_framed = subst (λ (z : Executed). AreFramed z.world.things) executed-is
+      (execution_keeps_framed s.topology x.world e.client (command.Atomic x.request) P.lawful.numbered.things P.framed)
 
   pub new_states : StatesStand s.topology v (x ∷ cs)
   new_states = record {
@@ -238,28 +268,37 @@ module _ (s : Script) (x : Commit) (journal : List Entry) (cs : List Commit) (e 
   }
 
   -- what the commit shows is what its words show
-  new_picture : (c : ℕ) → IsIn c (ids_of s.topology Crtc) → picture s.topology v.things v.values c ≡ picture_at s.topology (x ∷ cs) (suc (length cs)) c
+  new_picture : (c : ℕ) → IsIn c (ids_of s.topology Crtc) → picture s.topology v.things v.values c
+      ≡ picture_at s.topology (x ∷ cs) (suc (length cs)) c
   new_picture c i =
       sym (words_show s.topology v c new_lawful new_framed follows.kept i)
       ∙ picture-alike s.topology (words_at s.topology v.things v.values c) _ _ c (λ p ip. ap plane_in (new_states.plane p ip))
-      ∙ ap (λ z. picture_in_words s.topology z (λ p. plane_in (plane_after s.topology (x ∷ cs) (suc (length cs)) p)) c) (new_states.crtc c i)
+      ∙ ap (λ z. picture_in_words s.topology z (λ p. plane_in (plane_after s.topology (x ∷ cs) (suc (length cs)) p)) c)
+      (new_states.crtc c i)
 
   abbrev named_now : ℕ → Bool
   named_now c = names x.world.values (new_values x) x.request.assigns c
 
-  shown_if : (b : Bool) (c : ℕ) → shown_by s.topology c x.world.values (command.Atomic x.request) (execute s.topology x.world e.client (command.Atomic x.request)) ≡ (if b then Some (pictured s.topology v c x.world.commits) else None)
-      → map pair_of (shown_in s.topology c x.world e.client (Some (command.Atomic x.request))) ≡ (if b then commit_picture x.world.commits (picture s.topology v.things v.values c) ∷ [] else [])
+  shown_if : (b : Bool) (c : ℕ) → shown_by s.topology c x.world.values (command.Atomic x.request)
+      (execute s.topology x.world e.client (command.Atomic x.request))
+      ≡ (if b then Some (pictured s.topology v c x.world.commits) else None)
+      → map pair_of (shown_in s.topology c x.world e.client (Some (command.Atomic x.request)))
+      ≡ (if b then commit_picture x.world.commits (picture s.topology v.things v.values c) ∷ [] else [])
   shown_if true c e1 = ap (map pair_of) (shown_in-some s.topology c x.world e.client (command.Atomic x.request) _ e1)
   shown_if false c e1 = ap (map pair_of) (shown_in-none s.topology c x.world e.client (command.Atomic x.request) e1)
 
-  shown_now : (c : ℕ) → map pair_of (shown_in s.topology c x.world e.client (Some (command.Atomic x.request))) ≡ (if named_now c then commit_picture x.world.commits (picture s.topology v.things v.values c) ∷ [] else [])
+  shown_now : (c : ℕ) → map pair_of (shown_in s.topology c x.world e.client (Some (command.Atomic x.request)))
+      ≡ (if named_now c then commit_picture x.world.commits (picture s.topology v.things v.values c) ∷ [] else [])
   shown_now c =
       shown_if (named_now c) c
       (ap (shown_by s.topology c x.world.values (command.Atomic x.request)) executed-is
-      ∙ ap (λ values. if names x.world.values values x.request.assigns c then Some (pictured s.topology v c x.world.commits) else None) follows.like.values)
+      ∙ ap (λ values. if names x.world.values values x.request.assigns c then Some (pictured s.topology v c x.world.commits) else None)
+      follows.like.values)
 
   shown_next : (c : ℕ) → IsIn c (ids_of s.topology Crtc)
-      → shown s.topology (x ∷ cs) c (suc (length cs)) ≡ (if named_now c then commit_picture x.world.commits (picture s.topology v.things v.values c) ∷ shown s.topology cs c (length cs) else shown s.topology cs c (length cs))
+      → shown s.topology (x ∷ cs) c (suc (length cs))
+      ≡ (if named_now c then commit_picture x.world.commits (picture s.topology v.things v.values c) ∷ shown s.topology cs c (length cs)
+      else shown s.topology cs c (length cs))
   unfolding shown
   shown_next c i =
       let n = names_new s.topology x cs c in
@@ -276,8 +315,10 @@ module _ (s : Script) (x : Commit) (journal : List Entry) (cs : List Commit) (e 
     count = follows.like.count ∙ add-one x.world.commits ∙ ap suc P.count;
     is_serial = serial_more s x.world journal e (command.Atomic x.request) P.is_serial is ∙ ap (λ (z : Executed). z.world) executed-is;
     is_shown = λ c i.
-        show_more s x.world journal e (command.Atomic x.request) c (reverse (shown s.topology cs c (length cs))) P.is_serial is (P.is_shown c i)
+        show_more s x.world journal e (command.Atomic x.request) c (reverse (shown s.topology cs c (length cs))) P.is_serial is
+        (P.is_shown c i)
         ∙ ap (λ z. reverse (shown s.topology cs c (length cs)) ++ z) (shown_now c)
-        ∙ reverse_or (named_now c) (commit_picture x.world.commits (picture s.topology v.things v.values c)) (shown s.topology cs c (length cs))
+        ∙ reverse_or (named_now c) (commit_picture x.world.commits (picture s.topology v.things v.values c))
+        (shown s.topology cs c (length cs))
         ∙ ap reverse (sym (shown_next c i));
   }

@@ -1,14 +1,17 @@
 -- Where nothing can be done: no client and no tail has a step, exactly where no step that moves may be done. It is so in a
 -- drained history, and in a dead one.
-use Rattle.std.proofs.Common.{◌≡◌, ℕ, List, [], ◌∷◌, ◌++◌, length, map, Bool, true, false, not, ◌&&◌, Option, Some, None, refl, sym, ap, ◌∙◌, subst, arith, inl, inr, ◌⊎◌, ⊎_elim}
+use Rattle.std.proofs.Common.{◌≡◌, ℕ, List, [], ◌∷◌, ◌++◌, length, map, Bool, true, false, not, ◌&&◌, Option, Some, None, refl, sym, ap}
+use Rattle.std.proofs.Common.{◌∙◌, subst, arith, inl, inr, ◌⊎◌, ⊎_elim}
 use Rattle.std.specs.Prelude.{if◌then◌else◌, filter, find}
 use Rattle.std.specs.List.{flat_map}
 use Rattle.std.specs.Option.{option_and_then, option_map}
-use Rattle.std.proofs.lemmas.Bool.{and_from, and_left, and_parts, and_right, cases_Bool, cond-false, cond-true, false_from_ne_true, false≢true}
+use Rattle.std.proofs.lemmas.Bool.{and_from, and_left, and_parts, and_right, cases_Bool, cond-false, cond-true, false_from_ne_true}
+use Rattle.std.proofs.lemmas.Bool.{false≢true}
 use Rattle.kms_model.specs.declared.objects.Kind.TheVariants.{Crtc, Plane, Conn}
 use Rattle.kms_model.specs.declared.objects.Topology.{Topology}
 use Rattle.kms_model.specs.declared.replies.Step.{Step}
-use Rattle.kms_model.specs.declared.replies.Step.TheVariants.{Begin, Lock, BackOff, Relock, Refuse, Test, Swap, Make, Signal, Claim, Write, Flush, HwDone, Vblank, Cleanup, Read, Return, Stall}
+use Rattle.kms_model.specs.declared.replies.Step.TheVariants.{Begin, Lock, BackOff, Relock, Refuse, Test, Swap, Make, Signal, Claim, Write}
+use Rattle.kms_model.specs.declared.replies.Step.TheVariants.{Flush, HwDone, Vblank, Cleanup, Read, Return, Stall}
 use Rattle.kms_model.specs.declared.runs.Doing.{Doing}
 use Rattle.kms_model.specs.declared.runs.Doing.TheVariants as doing
 use Rattle.kms_model.specs.declared.scripts.Command.{Command}
@@ -17,10 +20,13 @@ use Rattle.kms_model.specs.declared.scripts.Script.{Script}
 use Rattle.kms_model.specs.Device.Objects.{count_of, ids_of, object_id}
 use Rattle.kms_model.specs.Firsts.{first_some}
 use Rattle.kms_model.specs.Machine.Commits.{lockable}
-use Rattle.kms_model.specs.Machine.Histories.{client_numbers, commit_numbers, for_each, is_at_end, legal, steps_of_client, steps_of_commit, steps_that_move, steps_with_go}
+use Rattle.kms_model.specs.Machine.Histories.{client_numbers, commit_numbers, for_each, is_at_end, legal, steps_of_client, steps_of_commit}
+use Rattle.kms_model.specs.Machine.Histories.{steps_that_move, steps_with_go}
 use Rattle.kms_model.specs.Machine.State.{Machine, command_at, doing_at, holds, request_at, request_in}
-use Rattle.kms_model.specs.Machine.Steps.{contended, idle_at, is_atomic, is_free_for, is_idle, is_making, is_signal, is_wait, may, may_lock, may_refuse, may_swap, may_test, must_back_off, returning_of, taking_at}
-use Rattle.kms_model.specs.Order.Turns.{client_step, first_missing, in_affected_group, in_named_group, in_set_group, lock_step, missing_of, next_lock, or_those, tail_step}
+use Rattle.kms_model.specs.Machine.Steps.{contended, idle_at, is_atomic, is_free_for, is_idle, is_making, is_signal, is_wait, may, may_lock}
+use Rattle.kms_model.specs.Machine.Steps.{may_refuse, may_swap, may_test, must_back_off, returning_of, taking_at}
+use Rattle.kms_model.specs.Order.Turns.{client_step, first_missing, in_affected_group, in_named_group, in_set_group, lock_step, missing_of}
+use Rattle.kms_model.specs.Order.Turns.{next_lock, or_those, tail_step}
 use Rattle.kms_model.specs.Request.Reach.{reaches}
 use Rattle.kms_model.proofs.Items.{IsIn, ids-has, list_any-at, list_any-none, or_else-none, or_else-nones}
 use Rattle.kms_laws.specs.Laws.{can_move}
@@ -83,7 +89,8 @@ pub filter-in : (p : ℕ → Bool) (xs : List ℕ) (x : ℕ) → IsIn x (filter 
 filter-in p [] x is = absurd is
 filter-in p (y ∷ ys) x is = by_test (p y) refl is (λ rest. filter-in p ys x rest)
   where
-    by_test : (b : Bool) → p y ≡ b → IsIn x (if b then y ∷ filter p ys else filter p ys) → (IsIn x (filter p ys) → IsIn x ys × (p x ≡ true)) → IsIn x (y ∷ ys) × (p x ≡ true)
+    by_test : (b : Bool) → p y ≡ b → IsIn x (if b then y ∷ filter p ys else filter p ys) → (IsIn x (filter p ys) → IsIn x ys × (p x ≡ true))
+        → IsIn x (y ∷ ys) × (p x ≡ true)
     by_test true h (inl same) later = (inl same, ap p (sym same) ∙ h)
     by_test true h (inr rest) later = let r = later rest in (inr r.0, r.1)
     by_test false h rest later = let r = later rest in (inr r.0, r.1)
@@ -99,7 +106,8 @@ legal-may s m step h = go step (legal-cases s m step h)
 
 -- the decisions of a client, and the other steps but locks and its return, in the order in which they are tried
 abbrev pub tried : ℕ → List Step
-tried client = Refuse client ∷ Test client ∷ Swap client ∷ Begin client ∷ Make client ∷ Signal client ∷ Read client ∷ BackOff client ∷ Relock client ∷ []
+tried client = Refuse client ∷ Test client ∷ Swap client ∷ Begin client ∷ Make client ∷ Signal client ∷ Read client ∷ BackOff client
+    ∷ Relock client ∷ []
 
 tried-in : (t : Topology) (client : ℕ) (step : Step) → IsIn step (tried client) → IsIn step (steps_of_client t client)
 tried-in t client step (inl same) = inr (inr (inr (inl same)))
@@ -168,7 +176,8 @@ module _ (s : Script) (m : Machine) where
 
     not_legal : (step : Step) → (step ≡ Stall → ⊥) → IsIn step (steps_that_move s m) → legal s m step ≡ false
     not_legal step other is =
-        false_from_ne_true (legal s m step) (λ h. ⊎_elim (λ e. other e) (λ may_be. both_bools _ may_be (no_move step is)) (legal-may s m step h))
+        false_from_ne_true (legal s m step) (λ h. ⊎_elim (λ e. other e) (λ may_be. both_bools _ may_be (no_move step is))
+        (legal-may s m step h))
 
     no_lock : (client : ℕ) → IsIn client (client_numbers s) → (o : ℕ) → IsIn o (lockable s.topology) → may_lock s m client o ≡ false
     no_lock client ic o io = false_from_ne_true (may_lock s m client o) (λ h. no_can (locks s m client o ic io h))
@@ -183,9 +192,11 @@ module _ (s : Script) (m : Machine) where
     no_client_step : (client : ℕ) → IsIn client (client_numbers s) → client_step s m client ≡ None
     unfolding client_step
     no_client_step client ic =
-        or_else-nones (find (legal s m) (tried client)) (option_map (lock_step client) (option_and_then (next_lock s m client) (request_at s m client)))
+        or_else-nones (find (legal s m) (tried client))
+        (option_map (lock_step client) (option_and_then (next_lock s m client) (request_at s m client)))
         (find-none (legal s m) (tried client)
-        (λ step is. not_legal step (λ e. tried-no-stall client (subst (λ z. IsIn z (tried client)) e is)) (of_client s m client step ic (tried-in s.topology client step is))))
+        (λ step is. not_legal step (λ e. tried-no-stall client (subst (λ z. IsIn z (tried client)) e is))
+        (of_client s m client step ic (tried-in s.topology client step is))))
         (by_request (request_at s m client))
       where
         by_request : (o : Option Request) → option_map (lock_step client) (option_and_then (next_lock s m client) o) ≡ None
@@ -194,7 +205,8 @@ module _ (s : Script) (m : Machine) where
 
     no_return : (client : ℕ) → IsIn client (client_numbers s) → legal s m (Return client) ≡ false
     no_return client ic =
-        not_legal (Return client) (λ e. absurd cc) (of_client s m client (Return client) ic (inr (inr (inr (inr (inr (inr (inr (inr (inr (inl refl)))))))))))
+        not_legal (Return client) (λ e. absurd cc) (of_client s m client (Return client) ic
+        (inr (inr (inr (inr (inr (inr (inr (inr (inr (inl refl)))))))))))
 
     commit-no-stall : (k : ℕ) → IsIn Stall (steps_of_commit s.topology k) → ⊥
     commit-no-stall k (inl same) = absurd cc
@@ -207,50 +219,64 @@ module _ (s : Script) (m : Machine) where
         (λ more2.
         ⊎_elim
         (λ c. let r = map-from (λ index. Flush k Crtc index) _ Stall c in let e : Flush k Crtc r.number ≡ Stall = r.same in absurd cc)
-        (λ ends. ⊎_elim (λ (d : HwDone k ≡ Stall). absurd cc) (λ last. ⊎_elim (λ (d : Cleanup k ≡ Stall). absurd cc) (λ never. never) last) ends)
+        (λ ends. ⊎_elim (λ (d : HwDone k ≡ Stall). absurd cc) (λ last. ⊎_elim (λ (d : Cleanup k ≡ Stall). absurd cc) (λ never. never) last)
+        ends)
         (in_either (for_each s.topology Crtc (λ kind index. Flush k kind index)) _ Stall more2))
         (in_either (for_each s.topology Plane (λ kind index. Write k kind index)) _ Stall more))
         (in_either (for_each s.topology Crtc (λ kind index. Write k kind index)) _ Stall rest)
 
     go-in : (step : Step) → IsIn step (steps_with_go s.topology m) → IsIn step (steps_that_move s m)
     go-in step is =
-        in_right (flat_map (steps_of_client s.topology) (client_numbers s)) _ step (in_right (flat_map (steps_of_commit s.topology) (commit_numbers m)) (steps_with_go s.topology m) step is)
+        in_right (flat_map (steps_of_client s.topology) (client_numbers s)) _ step
+        (in_right (flat_map (steps_of_commit s.topology) (commit_numbers m)) (steps_with_go s.topology m) step is)
 
     no_tail_step : tail_step s m ≡ None
     unfolding tail_step
     no_tail_step =
-        or_else-nones (first_some (λ k. find (legal s m) (steps_of_commit s.topology k)) (commit_numbers m)) (find (legal s m) (steps_with_go s.topology m))
+        or_else-nones (first_some (λ k. find (legal s m) (steps_of_commit s.topology k)) (commit_numbers m))
+        (find (legal s m) (steps_with_go s.topology m))
         (first-nothing (λ k. find (legal s m) (steps_of_commit s.topology k)) (commit_numbers m)
         (λ k ik. find-none (legal s m) (steps_of_commit s.topology k)
         (λ step is. not_legal step (λ e. commit-no-stall k (subst (λ z. IsIn z (steps_of_commit s.topology k)) e is))
         (of_commit s m k step (let l = range-below 0 (length m.device.commits) k ik in omega (arith, l)) is))))
-        (find-none (legal s m) (steps_with_go s.topology m) (λ step is. not_legal step (λ e. go-no-stall (subst (λ z. IsIn z (steps_with_go s.topology m)) e is)) (go-in step is)))
+        (find-none (legal s m) (steps_with_go s.topology m)
+        (λ step is. not_legal step (λ e. go-no-stall (subst (λ z. IsIn z (steps_with_go s.topology m)) e is)) (go-in step is)))
 
     pub unable-quiet : IsQuiet s m
-    unable-quiet = record { clients = λ client ic running. no_client_step client ic; returns = λ client ic running. no_return client ic; tails = no_tail_step }
+    unable-quiet = record {
+      clients = λ client ic running. no_client_step client ic;
+      returns = λ client ic running. no_return client ic;
+      tails = no_tail_step;
+    }
 
   -- the locks of a client
   lock-steps : (client : ℕ) → ((o : ℕ) → IsIn o (lockable s.topology) → may_lock s m client o ≡ false) → (step : Step)
-      → IsIn step (for_each s.topology Crtc (λ kind index. Lock client kind index) ++ (for_each s.topology Plane (λ kind index. Lock client kind index) ++ for_each s.topology Conn (λ kind index. Lock client kind index))) → may s m step ≡ false
+      → IsIn step (for_each s.topology Crtc (λ kind index. Lock client kind index)
+      ++ (for_each s.topology Plane (λ kind index. Lock client kind index)
+      ++ for_each s.topology Conn (λ kind index. Lock client kind index))) → may s m step ≡ false
   unfolding may
   lock-steps client fails step is =
       ⊎_elim
       (λ a.
       let r = map-from (λ index. Lock client Crtc index) _ step a in
       subst (λ z. may s m z ≡ false) r.same
-      (and_right _ _ (fails (object_id Crtc r.number) (in_left (ids_of s.topology Crtc) _ _ (ids-has s.topology Crtc r.number (let l = range-below 0 (count_of s.topology Crtc) r.number r.is_in in omega (arith, l)))))))
+      (and_right _ _ (fails (object_id Crtc r.number)
+      (in_left (ids_of s.topology Crtc) _ _ (ids-has s.topology Crtc r.number
+      (let l = range-below 0 (count_of s.topology Crtc) r.number r.is_in in omega (arith, l)))))))
       (λ rest.
       ⊎_elim
       (λ b.
       let r = map-from (λ index. Lock client Plane index) _ step b in
       subst (λ z. may s m z ≡ false) r.same
       (and_right _ _ (fails (object_id Plane r.number)
-      (in_right (ids_of s.topology Crtc) _ _ (in_left (ids_of s.topology Plane) _ _ (ids-has s.topology Plane r.number (let l = range-below 0 (count_of s.topology Plane) r.number r.is_in in omega (arith, l))))))))
+      (in_right (ids_of s.topology Crtc) _ _ (in_left (ids_of s.topology Plane) _ _
+      (ids-has s.topology Plane r.number (let l = range-below 0 (count_of s.topology Plane) r.number r.is_in in omega (arith, l))))))))
       (λ c.
       let r = map-from (λ index. Lock client Conn index) _ step c in
       subst (λ z. may s m z ≡ false) r.same
       (and_right _ _ (fails (object_id Conn r.number)
-      (in_right (ids_of s.topology Crtc) _ _ (in_right (ids_of s.topology Plane) _ _ (ids-has s.topology Conn r.number (let l = range-below 0 (count_of s.topology Conn) r.number r.is_in in omega (arith, l))))))))
+      (in_right (ids_of s.topology Crtc) _ _ (in_right (ids_of s.topology Plane) _ _
+      (ids-has s.topology Conn r.number (let l = range-below 0 (count_of s.topology Conn) r.number r.is_in in omega (arith, l))))))))
       (in_either (for_each s.topology Plane (λ kind index. Lock client kind index)) _ step rest))
       (in_either (for_each s.topology Crtc (λ kind index. Lock client kind index)) _ step is)
 
@@ -268,25 +294,36 @@ module _ (s : Script) (m : Machine) where
   taking-fails client test e = false_from_ne_true (taking_at s m client test) (λ h. taking-none s m client test (ap request_in e) h)
 
   -- a client at its end has no step
-  pub ended-fails : (client : ℕ) → is_at_end s m client ≡ true → (step : Step) → IsIn step (steps_of_client s.topology client) → may s m step ≡ false
+  pub ended-fails : (client : ℕ) → is_at_end s m client ≡ true → (step : Step) → IsIn step (steps_of_client s.topology client)
+      → may s m step ≡ false
   unfolding may may_lock
-  ended-fails client h step is = by_step (and_parts (is_idle (doing_at m client)) _ h).0 (none-is (command_at s m client) (and_parts (is_idle (doing_at m client)) _ h).1) is
+  ended-fails client h step is = by_step (and_parts (is_idle (doing_at m client)) _ h).0
+      (none-is (command_at s m client) (and_parts (is_idle (doing_at m client)) _ h).1) is
     where
       returns_not : (o : Option ℕ) → returning_of (doing_at m client) ≡ o → o ≡ None → may s m (Return client) ≡ false
       returns_not None e f = rw e refl
       returns_not (Some k) e f = absurd cc
 
-      by_step : is_idle (doing_at m client) ≡ true → command_at s m client ≡ None → IsIn step (steps_of_client s.topology client) → may s m step ≡ false
+      by_step : is_idle (doing_at m client) ≡ true → command_at s m client ≡ None → IsIn step (steps_of_client s.topology client)
+          → may s m step ≡ false
       by_step idle none (inl same) = subst (λ z. may s m z ≡ false) same (idle-fails client is_atomic none)
       by_step idle none (inr (inl same)) = subst (λ z. may s m z ≡ false) same (idle-rest (doing_at m client) idle).0.0
-      by_step idle none (inr (inr (inl same))) = subst (λ z. may s m z ≡ false) same (ap (is_free_for m) (idle-rest (doing_at m client) idle).0.1)
-      by_step idle none (inr (inr (inr (inl same)))) = subst (λ z. may s m z ≡ false) same (taking-fails client (may_refuse s.topology m client) none)
-      by_step idle none (inr (inr (inr (inr (inl same))))) = subst (λ z. may s m z ≡ false) same (taking-fails client (may_test s.topology m client) none)
-      by_step idle none (inr (inr (inr (inr (inr (inl same)))))) = subst (λ z. may s m z ≡ false) same (taking-fails client (may_swap s.topology m client) none)
-      by_step idle none (inr (inr (inr (inr (inr (inr (inl same))))))) = subst (λ z. may s m z ≡ false) same (idle-fails client is_making none)
-      by_step idle none (inr (inr (inr (inr (inr (inr (inr (inl same)))))))) = subst (λ z. may s m z ≡ false) same (idle-fails client is_signal none)
-      by_step idle none (inr (inr (inr (inr (inr (inr (inr (inr (inl same))))))))) = subst (λ z. may s m z ≡ false) same (and_left _ _ (idle-fails client is_wait none))
-      by_step idle none (inr (inr (inr (inr (inr (inr (inr (inr (inr (inl same)))))))))) = subst (λ z. may s m z ≡ false) same (returns_not (returning_of (doing_at m client)) refl (idle-rest (doing_at m client) idle).1)
+      by_step idle none (inr (inr (inl same))) = subst (λ z. may s m z ≡ false) same
+          (ap (is_free_for m) (idle-rest (doing_at m client) idle).0.1)
+      by_step idle none (inr (inr (inr (inl same)))) = subst (λ z. may s m z ≡ false) same
+          (taking-fails client (may_refuse s.topology m client) none)
+      by_step idle none (inr (inr (inr (inr (inl same))))) = subst (λ z. may s m z ≡ false) same
+          (taking-fails client (may_test s.topology m client) none)
+      by_step idle none (inr (inr (inr (inr (inr (inl same)))))) = subst (λ z. may s m z ≡ false) same
+          (taking-fails client (may_swap s.topology m client) none)
+      by_step idle none (inr (inr (inr (inr (inr (inr (inl same))))))) = subst (λ z. may s m z ≡ false) same
+          (idle-fails client is_making none)
+      by_step idle none (inr (inr (inr (inr (inr (inr (inr (inl same)))))))) = subst (λ z. may s m z ≡ false) same
+          (idle-fails client is_signal none)
+      by_step idle none (inr (inr (inr (inr (inr (inr (inr (inr (inl same))))))))) = subst (λ z. may s m z ≡ false) same
+          (and_left _ _ (idle-fails client is_wait none))
+      by_step idle none (inr (inr (inr (inr (inr (inr (inr (inr (inr (inl same)))))))))) = subst (λ z. may s m z ≡ false) same
+          (returns_not (returning_of (doing_at m client)) refl (idle-rest (doing_at m client) idle).1)
       by_step idle none (inr (inr (inr (inr (inr (inr (inr (inr (inr (inr locks_)))))))))) =
           lock-steps client (λ o io. and_left _ _ (taking-fails client (λ r. reaches s.topology m.device.world r o) none)) step locks_
 
@@ -295,7 +332,8 @@ module _ (s : Script) (m : Machine) where
   module _ (Q : IsQuiet s m) (going : m.stalled ≡ false) where
     tried-fails : (client : ℕ) → client_step s m client ≡ None → (step : Step) → IsIn step (tried client) → legal s m step ≡ false
     unfolding client_step
-    tried-fails client e step is = find-fails (legal s m) (tried client) step (or_else-none (find (legal s m) (tried client)) _ e).first_none is
+    tried-fails client e step is = find-fails (legal s m) (tried client) step
+        (or_else-none (find (legal s m) (tried client)) _ e).first_none is
 
     lock-fails : (client : ℕ) → client_step s m client ≡ None → (o : ℕ) → IsIn o (lockable s.topology) → may_lock s m client o ≡ false
     unfolding client_step next_lock may_lock
@@ -305,11 +343,14 @@ module _ (s : Script) (m : Machine) where
         mapped None e = refl
         mapped (Some x) e = absurd cc
 
-        by_request : (q : Option Request) → request_at s m client ≡ q → option_map (lock_step client) (option_and_then (next_lock s m client) q) ≡ None → may_lock s m client o ≡ false
-        by_request None is e = and_left _ _ (false_from_ne_true (taking_at s m client (λ r. reaches s.topology m.device.world r o)) (λ h. taking-none s m client _ is h))
+        by_request : (q : Option Request) → request_at s m client ≡ q
+            → option_map (lock_step client) (option_and_then (next_lock s m client) q) ≡ None → may_lock s m client o ≡ false
+        by_request None is e = and_left _ _ (false_from_ne_true (taking_at s m client (λ r. reaches s.topology m.device.world r o))
+            (λ h. taking-none s m client _ is h))
         by_request (Some r) is e =
             find-fails (may_lock s m client) (lockable s.topology) o
-            (or_else-none (find (may_lock s m client) (first_missing s.topology m client r)) _ (mapped (next_lock s m client r) e)).second_none io
+            (or_else-none (find (may_lock s m client) (first_missing s.topology m client r)) _
+            (mapped (next_lock s m client r) e)).second_none io
 
     may-legal : (step : Step) → may s m step ≡ true → legal s m step ≡ true
     unfolding may legal
@@ -336,34 +377,52 @@ module _ (s : Script) (m : Machine) where
     not-may step h = false_from_ne_true (may s m step) (λ may_be. both_bools _ (may-legal step may_be) h)
 
     -- a client that is not at its end
-    running-fails : (client : ℕ) → client_step s m client ≡ None → legal s m (Return client) ≡ false → (step : Step) → IsIn step (steps_of_client s.topology client) → may s m step ≡ false
-    running-fails client e back step (inl same) = subst (λ z. may s m z ≡ false) same (not-may (Begin client) (tried-fails client e (Begin client) (inr (inr (inr (inl refl))))))
-    running-fails client e back step (inr (inl same)) = subst (λ z. may s m z ≡ false) same (not-may (BackOff client) (tried-fails client e (BackOff client) (inr (inr (inr (inr (inr (inr (inr (inl refl))))))))))
-    running-fails client e back step (inr (inr (inl same))) = subst (λ z. may s m z ≡ false) same (not-may (Relock client) (tried-fails client e (Relock client) (inr (inr (inr (inr (inr (inr (inr (inr (inl refl)))))))))))
-    running-fails client e back step (inr (inr (inr (inl same)))) = subst (λ z. may s m z ≡ false) same (not-may (Refuse client) (tried-fails client e (Refuse client) (inl refl)))
-    running-fails client e back step (inr (inr (inr (inr (inl same))))) = subst (λ z. may s m z ≡ false) same (not-may (Test client) (tried-fails client e (Test client) (inr (inl refl))))
-    running-fails client e back step (inr (inr (inr (inr (inr (inl same)))))) = subst (λ z. may s m z ≡ false) same (not-may (Swap client) (tried-fails client e (Swap client) (inr (inr (inl refl)))))
-    running-fails client e back step (inr (inr (inr (inr (inr (inr (inl same))))))) = subst (λ z. may s m z ≡ false) same (not-may (Make client) (tried-fails client e (Make client) (inr (inr (inr (inr (inl refl)))))))
-    running-fails client e back step (inr (inr (inr (inr (inr (inr (inr (inl same)))))))) = subst (λ z. may s m z ≡ false) same (not-may (Signal client) (tried-fails client e (Signal client) (inr (inr (inr (inr (inr (inl refl))))))))
-    running-fails client e back step (inr (inr (inr (inr (inr (inr (inr (inr (inl same))))))))) = subst (λ z. may s m z ≡ false) same (not-may (Read client) (tried-fails client e (Read client) (inr (inr (inr (inr (inr (inr (inl refl)))))))))
-    running-fails client e back step (inr (inr (inr (inr (inr (inr (inr (inr (inr (inl same)))))))))) = subst (λ z. may s m z ≡ false) same (not-may (Return client) back)
-    running-fails client e back step (inr (inr (inr (inr (inr (inr (inr (inr (inr (inr locks_)))))))))) = lock-steps client (lock-fails client e) step locks_
+    running-fails : (client : ℕ) → client_step s m client ≡ None → legal s m (Return client) ≡ false → (step : Step)
+        → IsIn step (steps_of_client s.topology client) → may s m step ≡ false
+    running-fails client e back step (inl same) = subst (λ z. may s m z ≡ false) same
+        (not-may (Begin client) (tried-fails client e (Begin client) (inr (inr (inr (inl refl))))))
+    running-fails client e back step (inr (inl same)) = subst (λ z. may s m z ≡ false) same
+        (not-may (BackOff client) (tried-fails client e (BackOff client) (inr (inr (inr (inr (inr (inr (inr (inl refl))))))))))
+    running-fails client e back step (inr (inr (inl same))) = subst (λ z. may s m z ≡ false) same
+        (not-may (Relock client) (tried-fails client e (Relock client) (inr (inr (inr (inr (inr (inr (inr (inr (inl refl)))))))))))
+    running-fails client e back step (inr (inr (inr (inl same)))) = subst (λ z. may s m z ≡ false) same
+        (not-may (Refuse client) (tried-fails client e (Refuse client) (inl refl)))
+    running-fails client e back step (inr (inr (inr (inr (inl same))))) = subst (λ z. may s m z ≡ false) same
+        (not-may (Test client) (tried-fails client e (Test client) (inr (inl refl))))
+    running-fails client e back step (inr (inr (inr (inr (inr (inl same)))))) = subst (λ z. may s m z ≡ false) same
+        (not-may (Swap client) (tried-fails client e (Swap client) (inr (inr (inl refl)))))
+    running-fails client e back step (inr (inr (inr (inr (inr (inr (inl same))))))) = subst (λ z. may s m z ≡ false) same
+        (not-may (Make client) (tried-fails client e (Make client) (inr (inr (inr (inr (inl refl)))))))
+    running-fails client e back step (inr (inr (inr (inr (inr (inr (inr (inl same)))))))) = subst (λ z. may s m z ≡ false) same
+        (not-may (Signal client) (tried-fails client e (Signal client) (inr (inr (inr (inr (inr (inl refl))))))))
+    running-fails client e back step (inr (inr (inr (inr (inr (inr (inr (inr (inl same))))))))) = subst (λ z. may s m z ≡ false) same
+        (not-may (Read client) (tried-fails client e (Read client) (inr (inr (inr (inr (inr (inr (inl refl)))))))))
+    running-fails client e back step (inr (inr (inr (inr (inr (inr (inr (inr (inr (inl same)))))))))) = subst (λ z. may s m z ≡ false) same
+        (not-may (Return client) back)
+    running-fails client e back step (inr (inr (inr (inr (inr (inr (inr (inr (inr (inr locks_)))))))))) = lock-steps client
+        (lock-fails client e) step locks_
 
     tail-fails : (k : ℕ) → IsIn k (commit_numbers m) → (step : Step) → IsIn step (steps_of_commit s.topology k) → may s m step ≡ false
     unfolding tail_step
     tail-fails k ik step is =
-        let parts = or_else-none (first_some (λ j. find (legal s m) (steps_of_commit s.topology j)) (commit_numbers m)) (find (legal s m) (steps_with_go s.topology m)) Q.tails in
-        not-may step (find-fails (legal s m) (steps_of_commit s.topology k) step (first-fails (λ j. find (legal s m) (steps_of_commit s.topology j)) (commit_numbers m) k parts.first_none ik) is)
+        let parts = or_else-none (first_some (λ j. find (legal s m) (steps_of_commit s.topology j)) (commit_numbers m))
+        (find (legal s m) (steps_with_go s.topology m)) Q.tails in
+        not-may step (find-fails (legal s m) (steps_of_commit s.topology k) step
+        (first-fails (λ j. find (legal s m) (steps_of_commit s.topology j)) (commit_numbers m) k parts.first_none ik) is)
 
     go-fails : (step : Step) → IsIn step (steps_with_go s.topology m) → may s m step ≡ false
     unfolding tail_step
     go-fails step is =
-        let parts = or_else-none (first_some (λ j. find (legal s m) (steps_of_commit s.topology j)) (commit_numbers m)) (find (legal s m) (steps_with_go s.topology m)) Q.tails in
+        let parts = or_else-none (first_some (λ j. find (legal s m) (steps_of_commit s.topology j)) (commit_numbers m))
+        (find (legal s m) (steps_with_go s.topology m)) Q.tails in
         not-may step (find-fails (legal s m) (steps_with_go s.topology m) step parts.second_none is)
 
-    client-fails : (client : ℕ) → IsIn client (client_numbers s) → (step : Step) → IsIn step (steps_of_client s.topology client) → may s m step ≡ false
+    client-fails : (client : ℕ) → IsIn client (client_numbers s) → (step : Step) → IsIn step (steps_of_client s.topology client)
+        → may s m step ≡ false
     client-fails client ic step is =
-        ⊎_elim (λ ends. ended-fails client ends step is) (λ running. running-fails client (Q.clients client ic running) (Q.returns client ic running) step is) (cases_Bool (is_at_end s m client))
+        ⊎_elim (λ ends. ended-fails client ends step is)
+        (λ running. running-fails client (Q.clients client ic running) (Q.returns client ic running) step is)
+        (cases_Bool (is_at_end s m client))
 
     pub quiet-unable : can_move s m ≡ false
     quiet-unable =

@@ -1,5 +1,6 @@
 -- The events that were read are those that replies tell: each step that answers with an event reads it, and no other reads one.
-use Rattle.std.proofs.Common.{◌≡◌, ℕ, Bool, true, false, cond, ◌==◌, List, [], ◌∷◌, ◌++◌, length, map, Option, Some, None, refl, sym, ap, ◌∙◌, append-nil}
+use Rattle.std.proofs.Common.{◌≡◌, ℕ, Bool, true, false, cond, ◌==◌, List, [], ◌∷◌, ◌++◌, length, map, Option, Some, None, refl, sym, ap}
+use Rattle.std.proofs.Common.{◌∙◌, append-nil}
 use Rattle.std.specs.Prelude.{filter, reverse}
 use Rattle.std.specs.List.{cons_option, filter_map}
 use Rattle.std.proofs.lemmas.List.Elements.{filter_map-append}
@@ -16,7 +17,8 @@ use Rattle.kms_model.specs.declared.scripts.Script.{Script}
 use Rattle.kms_model.specs.declared.worlds.Content.{Content}
 use Rattle.kms_model.specs.declared.worlds.Thing.{Thing}
 use Rattle.kms_model.specs.declared.worlds.World.{World}
-use Rattle.kms_model.specs.Device.Execution.{BufferInfo, add_fb, answer, buffer_of, close_refusal, close_unless, commit, committed, destroy_refusal, execute, make_unless, new_buffer_refusal, signal_refusal, signal_unless}
+use Rattle.kms_model.specs.Device.Execution.{BufferInfo, add_fb, answer, buffer_of, close_refusal, close_unless, commit, committed}
+use Rattle.kms_model.specs.Device.Execution.{destroy_refusal, execute, make_unless, new_buffer_refusal, signal_refusal, signal_unless}
 use Rattle.kms_model.specs.Device.World.{thing_labelled}
 use Rattle.kms_model.specs.Machine.Effects.{answers, busy_reply, goes_on, next, refusal_reply, signals}
 use Rattle.kms_model.specs.Machine.Histories.{at, is_history, legal, read_by, replies}
@@ -55,7 +57,8 @@ signal-none : (w : World) (o : Option ℕ) → event_in (signal_unless w o).repl
 signal-none w None = refl
 signal-none w (Some n) = refl
 
-tested-none : (t : Topology) (w : World) (client : ℕ) (r : Request) (test : Bool) → event_in (cond test (answer w reply.Tested) (committed t w client r)).reply ≡ None
+tested-none : (t : Topology) (w : World) (client : ℕ) (r : Request) (test : Bool)
+    → event_in (cond test (answer w reply.Tested) (committed t w client r)).reply ≡ None
 tested-none t w client r true = refl
 tested-none t w client r false = refl
 
@@ -66,12 +69,15 @@ commit-none t w client r (Some n) = refl
 -- no command of the device of one thread is answered with an event
 execute-none : (t : Topology) (w : World) (client : ℕ) (c : Command) → event_in (execute t w client c).reply ≡ None
 unfolding execute
-execute-none t w client (command.Buffer label width height format pattern) = making-none w client label _ (new_buffer_refusal w.things width height format)
+execute-none t w client (command.Buffer label width height format pattern) = making-none w client label _
+    (new_buffer_refusal w.things width height format)
 execute-none t w client (command.AddFb label buffer) = adding-none w client label (buffer_of w.things client buffer)
 execute-none t w client (command.Mode label m) = refl
 execute-none t w client (command.Blob label bytes) = refl
-execute-none t w client (command.Destroy label) = closing-none w (thing_labelled w.things label) (destroy_refusal client (thing_labelled w.things label))
-execute-none t w client (command.CloseFb label) = closing-none w (thing_labelled w.things label) (close_refusal client (thing_labelled w.things label))
+execute-none t w client (command.Destroy label) = closing-none w (thing_labelled w.things label)
+    (destroy_refusal client (thing_labelled w.things label))
+execute-none t w client (command.CloseFb label) = closing-none w (thing_labelled w.things label)
+    (close_refusal client (thing_labelled w.things label))
 execute-none t w client (command.Fence label) = refl
 execute-none t w client (command.Signal label) = signal-none w (signal_refusal (thing_labelled w.things label))
 execute-none t w client (command.Atomic r) = commit-none t w client r (verdict t w r)
@@ -81,7 +87,8 @@ busy-none : (t : Topology) (m : Machine) (o : Option ℕ) → event_in (busy_rep
 busy-none t m None = refl
 busy-none t m (Some object) = refl
 
-late-none : (t : Topology) (m : Machine) (client : ℕ) (o : Option ℕ) (b : Bool) → event_in (cond b (reply.Space (space_used m.events client)) (busy_reply t m o)) ≡ None
+late-none : (t : Topology) (m : Machine) (client : ℕ) (o : Option ℕ) (b : Bool)
+    → event_in (cond b (reply.Space (space_used m.events client)) (busy_reply t m o)) ≡ None
 late-none t m client o true = refl
 late-none t m client o false = busy-none t m o
 
@@ -95,12 +102,18 @@ abbrev AreTold : Machine → Type 0
 AreTold m = filter_map pair_in m.records.replies ≡ m.events.events_read
 
 -- a reply that tells no event adds none
-silent : (a : Answered) (answered : List Answered) → event_in a.reply ≡ None → filter_map pair_in (a ∷ answered) ≡ filter_map pair_in answered
+silent : (a : Answered) (answered : List Answered) → event_in a.reply ≡ None → filter_map pair_in (a ∷ answered)
+    ≡ filter_map pair_in answered
 silent a answered e = rw e refl
 
 module _ (s : Script) (m : Machine) (T : AreTold m) where
   silently : (client : ℕ) (r : Reply) → event_in r ≡ None → filter_map pair_in (answers m client r).records.replies ≡ m.events.events_read
-  silently client r e = silent (record { client = client; command = (place_at m client).command; place = length m.records.journal; reply = r }) m.records.replies e ∙ T
+  silently client r e = silent (record {
+    client = client;
+    command = (place_at m client).command;
+    place = length m.records.journal;
+    reply = r;
+  }) m.records.replies e ∙ T
 
   carries_told : Carries s m (λ step m2. AreTold m2)
   carries_told = record {
@@ -114,7 +127,8 @@ module _ (s : Script) (m : Machine) (T : AreTold m) where
           by_bool (λ b. AreTold (made_as b m client (execute s.topology m.device.world client c))) now now b;
       signalled = λ client c e is_signal idle q.
           let now = silently client (execute s.topology m.device.world client c).reply (execute-none s.topology m.device.world client c) in
-          by_fence (λ q. AreTold (goes_on (signals (answers m client (execute s.topology m.device.world client c).reply) q) client)) now (λ fence. now) q;
+          by_fence (λ q. AreTold (goes_on (signals (answers m client (execute s.topology m.device.world client c).reply) q) client)) now
+          (λ fence. now) q;
       read_none = λ client c e is_wait idle none. T;
       read_one = λ client c e is_wait idle event events some. ap (λ (xs : List (ℕ × Event)). (client, event) ∷ xs) T;
     };
@@ -133,24 +147,29 @@ history_told s h is = along s AreTold (λ m step T legal_step. step_told s m T s
 filter_map-reverse : {A B : Type 0} (f : A → Option B) (xs : List A) → filter_map f (reverse xs) ≡ reverse (filter_map f xs)
 filter_map-reverse f [] = refl
 filter_map-reverse {A} {B} f (x ∷ xs) =
-    ap (filter_map f) (reverse_more x xs) ∙ filter_map-append f (reverse xs) (x ∷ []) ∙ ap (λ (ys : List B). ys ++ filter_map f (x ∷ [])) (filter_map-reverse f xs) ∙ last (f x)
+    ap (filter_map f) (reverse_more x xs) ∙ filter_map-append f (reverse xs) (x ∷ []) ∙ ap (λ (ys : List B). ys ++ filter_map f (x ∷ []))
+    (filter_map-reverse f xs) ∙ last (f x)
   where
     last : (o : Option B) → reverse (filter_map f xs) ++ cons_option o [] ≡ reverse (cons_option o (filter_map f xs))
     last None = append-nil (reverse (filter_map f xs))
     last (Some y) = sym (reverse_more y (filter_map f xs))
 
-of_client : (client : ℕ) (answered : List Answered) → map (λ e. e.1) (filter (λ e. e.0 == client) (filter_map pair_in answered)) ≡ events_told client answered
+of_client : (client : ℕ) (answered : List Answered) → map (λ e. e.1) (filter (λ e. e.0 == client) (filter_map pair_in answered))
+    ≡ events_told client answered
 of_client client [] = refl
 of_client client (a ∷ answered) = by_case (of_client client answered) (event_in a.reply) (a.client == client) refl refl where
-  by_case : map (λ e. e.1) (filter (λ e. e.0 == client) (filter_map pair_in answered)) ≡ events_told client answered → (o : Option Event) (b : Bool) → event_in a.reply ≡ o → (a.client == client) ≡ b
+  by_case : map (λ e. e.1) (filter (λ e. e.0 == client) (filter_map pair_in answered)) ≡ events_told client answered
+      → (o : Option Event) (b : Bool) → event_in a.reply ≡ o → (a.client == client) ≡ b
       → map (λ e. e.1) (filter (λ e. e.0 == client) (filter_map pair_in (a ∷ answered))) ≡ events_told client (a ∷ answered)
   by_case rest None true e own = rw (own, e) rest
   by_case rest None false e own = rw (own, e) rest
   by_case rest (Some event) true e own = rw (own, e, own) (ap (λ (xs : List Event). event ∷ xs) rest)
   by_case rest (Some event) false e own = rw (own, e, own) rest
 
-pub read-told : (s : Script) (h : List Step) → is_history s h ≡ true → (client : ℕ) → read_by (at s h) client ≡ events_told client (replies (at s h))
+pub read-told : (s : Script) (h : List Step) → is_history s h ≡ true → (client : ℕ) → read_by (at s h) client
+    ≡ events_told client (replies (at s h))
 read-told s h is client =
     ap (λ (es : List (ℕ × Event)). map (λ e. e.1) (filter (λ e. e.0 == client) (reverse es))) (sym (history_told s h is))
-    ∙ ap (λ (es : List (ℕ × Event)). map (λ e. e.1) (filter (λ e. e.0 == client) es)) (sym (filter_map-reverse pair_in (at s h).records.replies))
+    ∙ ap (λ (es : List (ℕ × Event)). map (λ e. e.1) (filter (λ e. e.0 == client) es))
+    (sym (filter_map-reverse pair_in (at s h).records.replies))
     ∙ of_client client (reverse (at s h).records.replies)

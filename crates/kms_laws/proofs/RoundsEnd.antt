@@ -1,5 +1,6 @@
 -- Rounds end, and in each history few steps move: each of them leaves less to do.
-use Rattle.std.proofs.Common.{◌≡◌, ℕ, zero, suc, ◌+◌, ◌<◌, ◌≤◌, ◌^◌, List, [], ◌∷◌, length, Bool, true, false, refl, sym, ap, ◌∙◌, subst, arith, ⊎_elim}
+use Rattle.std.proofs.Common.{◌≡◌, ℕ, zero, suc, ◌+◌, ◌<◌, ◌≤◌, ◌^◌, List, [], ◌∷◌, length, Bool, true, false, refl, sym, ap, ◌∙◌, subst}
+use Rattle.std.proofs.Common.{arith, ⊎_elim}
 use Rattle.std.specs.Prelude.{reverse}
 use Rattle.std.proofs.lemmas.Bool.{and_parts, cases_Bool, cases_lt, cond-false, cond-true, eq-eqb}
 use Rattle.kms_model.specs.Firsts.{one_if}
@@ -24,7 +25,8 @@ module _ (s : Script) (formed : IsWellFormed s) where
   counted-run : (run : Progress) → IsRun s run → Counted s (length (reverse run.steps)) run.machine
   counted-run run R =
       subst (Counted s (length (reverse run.steps))) (sym R.same)
-      (along_counted s (Counted s) (step_counted s (plain-from s formed)) (reverse run.steps) 0 (length (reverse run.steps)) (first_machine s.topology) (omega arith) (first_counted s (plain-from s formed)) R.is)
+      (along_counted s (Counted s) (step_counted s (plain-from s formed)) (reverse run.steps) 0 (length (reverse run.steps))
+      (first_machine s.topology) (omega arith) (first_counted s (plain-from s formed)) R.is)
 
   -- what is done is less to do
   later-lower : {a b : Progress} → Later s a b → IsRun s a → left s b.machine + length b.steps ≤ left s a.machine + length a.steps
@@ -34,7 +36,8 @@ module _ (s : Script) (formed : IsWellFormed s) where
       let C = counted-run a R in
       let counted-after = counted-run (does s a step) next-later in
       let less : left s (next s a.machine step) + 1 ≤ left s a.machine =
-      falls-lower s formed a.machine (length (reverse a.steps)) C step l (next s a.machine step) refl (length (reverse (does s a step).steps)) counted-after (falls s a.machine (length (reverse a.steps)) C step l mv) in
+      falls-lower s formed a.machine (length (reverse a.steps)) C step l (next s a.machine step) refl
+      (length (reverse (does s a step).steps)) counted-after (falls s a.machine (length (reverse a.steps)) C step l mv) in
       let later = later-lower rest next-later in
       omega (arith, less, later)
 
@@ -44,9 +47,12 @@ module _ (s : Script) (formed : IsWellFormed s) where
       let more = round-later s (plain-from s formed) run R in
       let a = later-lower more R in
       let b = later-length s more in
-      let ne : length (round s run).steps ≡ length run.steps → ⊥ = (λ e. both_bools (is_still s run) (eq-eqb (length (round s run).steps) (length run.steps) e) moving) in
+      let ne : length (round s run).steps ≡ length run.steps
+      → ⊥ = (λ e. both_bools (is_still s run) (eq-eqb (length (round s run).steps) (length run.steps) e) moving) in
       let c : length run.steps + 1 ≤ length (round s run).steps =
-      ⊎_elim (λ (lt : length run.steps < length (round s run).steps). omega (arith, lt)) (λ (ge : length (round s run).steps ≤ length run.steps). absurd (ne (omega (arith, b, ge)))) (cases_lt (length run.steps) (length (round s run).steps)) in
+      ⊎_elim (λ (lt : length run.steps < length (round s run).steps). omega (arith, lt))
+      (λ (ge : length (round s run).steps ≤ length run.steps). absurd (ne (omega (arith, b, ge))))
+      (cases_lt (length run.steps) (length (round s run).steps)) in
       omega (arith, a, c)
 
   rounds-rest : (most : ℕ) (run : Progress) → IsRun s run → left s run.machine ≤ most → is_still s (rounds s most run) ≡ true
@@ -69,12 +75,14 @@ module _ (s : Script) (formed : IsWellFormed s) where
       rounds-rest most (run_of s h) R (omega (arith, bound, l))
 
   -- each history has few steps that move
-  step-left : (n : ℕ) (m : Machine) (step : Step) → Counted s n m → legal s m step ≡ true → one_if (is_moving m step) + left s (next s m step) ≤ left s m
+  step-left : (n : ℕ) (m : Machine) (step : Step) → Counted s n m → legal s m step ≡ true → one_if (is_moving m step)
+      + left s (next s m step) ≤ left s m
   step-left n m step C l = by_case (is_moving m step) refl
     where
       by_case : (b : Bool) → is_moving m step ≡ b → one_if b + left s (next s m step) ≤ left s m
       by_case true mv =
-          let less = falls-lower s formed m n C step l (next s m step) refl (suc n) (step_counted s (plain-from s formed) n m step C l) (falls s m n C step l mv) in
+          let less = falls-lower s formed m n C step l (next s m step) refl (suc n) (step_counted s (plain-from s formed) n m step C l)
+          (falls s m n C step l mv) in
           omega (arith, less)
       by_case false mv = let same = idle-same s m step l mv in omega (arith, same)
 
@@ -94,7 +102,8 @@ module _ (s : Script) (formed : IsWellFormed s) where
       let b = left-bound s formed (first_machine s.topology) 0 C in
       omega (arith, a, b)
 
-  pub rounds-end-below : (h : List Step) → is_history s h ≡ true → (most : ℕ) → 2 ^ 53 ≤ suc most → is_still s (rounds s most (run_of s h)) ≡ true
+  pub rounds-end-below : (h : List Step) → is_history s h ≡ true → (most : ℕ) → 2 ^ 53 ≤ suc most → is_still s (rounds s most (run_of s h))
+      ≡ true
   rounds-end-below h is most l =
       let R = run-of s h is in
       let bound = left-bound s formed (at s h) (length (reverse (reverse h))) (counted-run (run_of s h) R) in

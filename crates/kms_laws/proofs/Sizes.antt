@@ -1,5 +1,6 @@
 -- How many commits, tickets, entries and replies there are: at most one for each command that was begun or answered.
-use Rattle.std.proofs.Common.{◌≡◌, ℕ, zero, suc, ◌+◌, ◌*◌, ◌<◌, ◌≤◌, List, [], ◌∷◌, length, Option, Some, None, refl, sym, ap, subst, arith, ⊎_elim}
+use Rattle.std.proofs.Common.{◌≡◌, ℕ, zero, suc, ◌+◌, ◌*◌, ◌<◌, ◌≤◌, List, [], ◌∷◌, length, Option, Some, None, refl, sym, ap, subst, arith}
+use Rattle.std.proofs.Common.{⊎_elim}
 use Rattle.std.specs.Option.{option_and_then}
 use Rattle.std.proofs.lemmas.Bool.{cases_eq, cases_lt}
 use Rattle.kms_model.specs.declared.runs.Doing.{Doing}
@@ -16,9 +17,11 @@ use Rattle.kms_laws.proofs.Basics.{read_other, read_same}
 
 pub sum-more : (f g : ℕ → ℕ) (from n : ℕ) → ((c : ℕ) → from ≤ c → c < from + n → f c ≤ g c) → sum f from n ≤ sum g from n
 sum-more f g from zero h = omega arith
-sum-more f g from (suc n) h = let a = h from (omega arith) (omega arith) in let b = sum-more f g (from + 1) n (λ c l m. h c (omega arith) (omega arith)) in omega (arith, a, b)
+sum-more f g from (suc n) h = let a = h from (omega arith) (omega arith)
+    in let b = sum-more f g (from + 1) n (λ c l m. h c (omega arith) (omega arith)) in omega (arith, a, b)
 
-pub sum-one : (f g : ℕ → ℕ) (x from n : ℕ) → ((c : ℕ) → from ≤ c → c < from + n → f c ≤ g c) → f x + 1 ≤ g x → from ≤ x → x < from + n → sum f from n + 1 ≤ sum g from n
+pub sum-one : (f g : ℕ → ℕ) (x from n : ℕ) → ((c : ℕ) → from ≤ c → c < from + n → f c ≤ g c) → f x + 1 ≤ g x → from ≤ x → x < from + n
+    → sum f from n + 1 ≤ sum g from n
 sum-one f g x from zero h one l m = absurd (omega arith)
 sum-one f g x from (suc n) h one l m =
     ⊎_elim
@@ -132,7 +135,8 @@ pub record IsThere (s : Script) (client command : ℕ) : Type 0 where
 pub command-there : (s : Script) (e : Entry) (c : Command) → command_of s e ≡ Some c → IsThere s e.client e.command
 command-there s e c is = go (from_one s.clients e.client) refl is
   where
-    go : (o : Option (List Command)) → from_one s.clients e.client ≡ o → option_and_then (λ commands. from_one commands e.command) o ≡ Some c → IsThere s e.client e.command
+    go : (o : Option (List Command)) → from_one s.clients e.client ≡ o → option_and_then (λ commands. from_one commands e.command) o
+        ≡ Some c → IsThere s e.client e.command
     go None found is = absurd cc
     go (Some commands) found is =
         let one = from_one-within s.clients e.client commands found in
@@ -141,12 +145,16 @@ command-there s e c is = go (from_one s.clients e.client) refl is
 
 -- A new place
 
-module _ (s : Script) (places : List (ℕ × Place)) (tickets commits ids entries replies : ℕ) (S : PlacesStand s places tickets commits ids entries replies) (x : ℕ) (p : Place) (is_low : 1 ≤ p.command) where
-  by_client : (F : Place → ℕ) (R : ℕ → ℕ → ℕ → Type 0) → ((c : ℕ) → R c (F (place_of places c)) (F (place_of places c))) → R x (F (place_of places x)) (F p) → (c : ℕ) → R c (F (place_of places c)) (F (place_of ((x, p) ∷ places) c))
+module _ (s : Script) (places : List (ℕ × Place)) (tickets commits ids entries replies : ℕ)
+    (S : PlacesStand s places tickets commits ids entries replies) (x : ℕ) (p : Place) (is_low : 1 ≤ p.command) where
+  by_client : (F : Place → ℕ) (R : ℕ → ℕ → ℕ → Type 0) → ((c : ℕ) → R c (F (place_of places c)) (F (place_of places c)))
+      → R x (F (place_of places x)) (F p) → (c : ℕ) → R c (F (place_of places c)) (F (place_of ((x, p) ∷ places) c))
   by_client F R other own c =
       ⊎_elim
-      (λ (same : x ≡ c). subst (λ z. R z (F (place_of places z)) (F (place_of ((x, p) ∷ places) z))) same (subst (λ q. R x (F (place_of places x)) (F q)) (sym (read_same (record { command = 1; doing = doing.Idle }) places x p)) own))
-      (λ ne. subst (λ q. R c (F (place_of places c)) (F q)) (sym (read_other (record { command = 1; doing = doing.Idle }) places x c p ne)) (other c))
+      (λ (same : x ≡ c). subst (λ z. R z (F (place_of places z)) (F (place_of ((x, p) ∷ places) z))) same
+      (subst (λ q. R x (F (place_of places x)) (F q)) (sym (read_same (record { command = 1; doing = doing.Idle }) places x p)) own))
+      (λ ne. subst (λ q. R c (F (place_of places c)) (F q)) (sym (read_other (record { command = 1; doing = doing.Idle }) places x c p ne))
+      (other c))
       (cases_eq x c)
 
   rises : (F : Place → ℕ) → F (place_of places x) ≤ F p → (c : ℕ) → F (place_of places c) ≤ F (place_of ((x, p) ∷ places) c)
@@ -162,13 +170,16 @@ module _ (s : Script) (places : List (ℕ × Place)) (tickets commits ids entrie
   low_now c = by_client (λ (q : Place). q.command) (λ c old new. 1 ≤ new) S.low is_low c
 
   begun_more : begun_at (place_of places x) ≤ begun_at p → all_begun s places ≤ all_begun s ((x, p) ∷ places)
-  begun_more le = sum-more (λ c. begun_at (place_of places c)) (λ c. begun_at (place_of ((x, p) ∷ places) c)) 1 (length s.clients) (λ c a b. rises begun_at le c)
+  begun_more le = sum-more (λ c. begun_at (place_of places c)) (λ c. begun_at (place_of ((x, p) ∷ places) c)) 1 (length s.clients)
+      (λ c a b. rises begun_at le c)
 
   ended_more : ended_at (place_of places x) ≤ ended_at p → all_ended s places ≤ all_ended s ((x, p) ∷ places)
-  ended_more le = sum-more (λ c. ended_at (place_of places c)) (λ c. ended_at (place_of ((x, p) ∷ places) c)) 1 (length s.clients) (λ c a b. rises ended_at le c)
+  ended_more le = sum-more (λ c. ended_at (place_of places c)) (λ c. ended_at (place_of ((x, p) ∷ places) c)) 1 (length s.clients)
+      (λ c a b. rises ended_at le c)
 
   -- a client stays at its command
-  pub stays : begun_at (place_of places x) ≡ begun_at p → ended_at (place_of places x) ≡ ended_at p → PlacesStand s ((x, p) ∷ places) tickets commits ids entries replies
+  pub stays : begun_at (place_of places x) ≡ begun_at p → ended_at (place_of places x) ≡ ended_at p
+      → PlacesStand s ((x, p) ∷ places) tickets commits ids entries replies
   stays b e =
       let begun = begun_more (omega (arith, b)) in
       let ended = ended_more (omega (arith, e)) in
@@ -183,11 +194,13 @@ module _ (s : Script) (places : List (ℕ × Place)) (tickets commits ids entrie
       }
 
   -- it draws a ticket
-  pub draws : IsThere s x (place_of places x).command → begun_at p ≡ (place_of places x).command + 1 → begun_at (place_of places x) + 1 ≡ begun_at p → ended_at (place_of places x) ≡ ended_at p
+  pub draws : IsThere s x (place_of places x).command → begun_at p ≡ (place_of places x).command + 1 → begun_at (place_of places x) + 1
+      ≡ begun_at p → ended_at (place_of places x) ≡ ended_at p
       → PlacesStand s ((x, p) ∷ places) (tickets + 1) commits ids entries replies
   draws there is b e =
       let one : begun_at (place_of places x) + 1 ≤ begun_at (place_of ((x, p) ∷ places) x) = let y = at_x begun_at in omega (arith, y, b) in
-      let begun = sum-one (λ c. begun_at (place_of places c)) (λ c. begun_at (place_of ((x, p) ∷ places) c)) x 1 (length s.clients) (λ c l m. rises begun_at (omega (arith, b)) c) one there.low there.high in
+      let begun = sum-one (λ c. begun_at (place_of places c)) (λ c. begun_at (place_of ((x, p) ∷ places) c)) x 1 (length s.clients)
+      (λ c l m. rises begun_at (omega (arith, b)) c) one there.low there.high in
       let ended = ended_more (omega (arith, e)) in
       record {
         low = low_now;
@@ -200,12 +213,14 @@ module _ (s : Script) (places : List (ℕ × Place)) (tickets commits ids entrie
       }
 
   -- its command is answered
-  pub ends : IsThere s x (place_of places x).command → begun_at p ≡ (place_of places x).command + 1 → begun_at (place_of places x) ≤ begun_at p → ended_at (place_of places x) + 1 ≡ ended_at p
+  pub ends : IsThere s x (place_of places x).command → begun_at p ≡ (place_of places x).command + 1 → begun_at (place_of places x)
+      ≤ begun_at p → ended_at (place_of places x) + 1 ≡ ended_at p
       → (commits2 ids2 entries2 replies2 : ℕ) → commits2 ≤ commits + 1 → ids2 ≤ ids + 4 → entries2 ≤ entries + 1 → replies2 ≤ replies + 1
       → PlacesStand s ((x, p) ∷ places) tickets commits2 ids2 entries2 replies2
   ends there is b e commits2 ids2 entries2 replies2 c i n r =
       let one : ended_at (place_of places x) + 1 ≤ ended_at (place_of ((x, p) ∷ places) x) = let y = at_x ended_at in omega (arith, y, e) in
-      let ended = sum-one (λ c. ended_at (place_of places c)) (λ c. ended_at (place_of ((x, p) ∷ places) c)) x 1 (length s.clients) (λ c l m. rises ended_at (omega (arith, e)) c) one there.low there.high in
+      let ended = sum-one (λ c. ended_at (place_of places c)) (λ c. ended_at (place_of ((x, p) ∷ places) c)) x 1 (length s.clients)
+      (λ c l m. rises ended_at (omega (arith, e)) c) one there.low there.high in
       let begun = begun_more b in
       record {
         low = low_now;

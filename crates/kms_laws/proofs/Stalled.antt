@@ -2,7 +2,8 @@
 use Rattle.std.proofs.Common.{◌≡◌, true, false, not, refl, inl, inr, ◌⊎◌}
 use Rattle.std.proofs.lemmas.Bool.{and_parts, not-true}
 use Rattle.kms_model.specs.declared.replies.Step.{Step}
-use Rattle.kms_model.specs.declared.replies.Step.TheVariants.{Begin, Lock, BackOff, Relock, Refuse, Test, Swap, Make, Signal, Claim, Write, Flush, HwDone, Vblank, Cleanup, Read, Return, Stall}
+use Rattle.kms_model.specs.declared.replies.Step.TheVariants.{Begin, Lock, BackOff, Relock, Refuse, Test, Swap, Make, Signal, Claim, Write}
+use Rattle.kms_model.specs.declared.replies.Step.TheVariants.{Flush, HwDone, Vblank, Cleanup, Read, Return, Stall}
 use Rattle.kms_model.specs.declared.scripts.Script.{Script}
 use Rattle.kms_model.specs.Device.Execution.{execute}
 use Rattle.kms_model.specs.Machine.Effects.{answers, goes_on, next, signals}
@@ -21,9 +22,13 @@ module _ (s : Script) (m : Machine) where
     answers = record {
       refuses = λ client r e taking may. inr refl;
       tests = λ client r e taking may. inr refl;
-      swaps = λ client r e taking may b w eb ew. by_two (λ b w. Ending m (Swap client) (swapped_as s.topology b w m client r)) (inr refl) (inr refl) (inr refl) (inr refl) b w;
-      makes = λ client c e making idle b eb. by_bool (λ b. Ending m (Make client) (made_as b m client (execute s.topology m.device.world client c))) (inr refl) (inr refl) b;
-      signalled = λ client c e is_signal idle o. by_fence (λ o. Ending m (Signal client) (goes_on (signals (answers m client (execute s.topology m.device.world client c).reply) o) client)) (inr refl) (λ fence. inr refl) o;
+      swaps = λ client r e taking may b w eb ew. by_two (λ b w. Ending m (Swap client) (swapped_as s.topology b w m client r)) (inr refl)
+          (inr refl) (inr refl) (inr refl) b w;
+      makes = λ client c e making idle b eb. by_bool
+          (λ b. Ending m (Make client) (made_as b m client (execute s.topology m.device.world client c))) (inr refl) (inr refl) b;
+      signalled = λ client c e is_signal idle o. by_fence
+          (λ o. Ending m (Signal client) (goes_on (signals (answers m client (execute s.topology m.device.world client c).reply) o) client))
+          (inr refl) (λ fence. inr refl) o;
       read_none = λ client c e is_wait idle none. inr refl;
       read_one = λ client c e is_wait idle event events some. inr refl;
     };

@@ -7,7 +7,8 @@ use Rattle.std.specs.Prelude.{get_or}
 use Rattle.kms_model.specs.declared.objects.Kind.TheVariants.{Crtc, Plane, Conn}
 use Rattle.kms_model.specs.declared.objects.PlaneInfo.{PlaneInfo}
 use Rattle.kms_model.specs.declared.objects.Topology.{Topology}
-use Rattle.kms_model.specs.declared.properties.TheConstants.{ACTIVE, CRTC_ID, CRTC_X, CRTC_Y, CRTC_W, CRTC_H, SRC_X, SRC_Y, SRC_W, SRC_H, ALPHA, BLEND, ZPOS}
+use Rattle.kms_model.specs.declared.properties.TheConstants.{ACTIVE, CRTC_ID, CRTC_X, CRTC_Y, CRTC_W, CRTC_H, SRC_X, SRC_Y, SRC_W, SRC_H}
+use Rattle.kms_model.specs.declared.properties.TheConstants.{ALPHA, BLEND, ZPOS}
 use Rattle.kms_model.specs.declared.scripts.Script.{Script}
 use Rattle.kms_model.specs.Device.Objects.{first_id, ids_of, index_of}
 use Rattle.kms_model.specs.Device.Serial.{serial_from, show_from}
@@ -26,17 +27,33 @@ use Rattle.kms_laws.proofs.Present.{Present, StatesStand}
 use Rattle.kms_laws.proofs.Requests.{words_at}
 use Rattle.kms_model.specs.Machine.Commits.{has_latched}
 
-start_plane_words : (t : Topology) (i : ℕ) (info : PlaneInfo) → IsDevice t → slice_get t.planes i ≡ Some info → index_of (200 + i) ≡ i → plane_words (plane_at [] (start t).values (200 + i)) ≡ first_plane_words (200 + i)
+start_plane_words : (t : Topology) (i : ℕ) (info : PlaneInfo) → IsDevice t → slice_get t.planes i ≡ Some info → index_of (200 + i) ≡ i
+    → plane_words (plane_at [] (start t).values (200 + i)) ≡ first_plane_words (200 + i)
 unfolding plane_words
 start_plane_words t i info device at index =
     let v = λ (q : ℕ) (has : has_number (plane_numbers i info) q ≡ true). plane_value t i q info device at has in
-    rw (v CRTC_ID refl, v CRTC_X refl, v CRTC_Y refl, v CRTC_W refl, v CRTC_H refl, v SRC_X refl, v SRC_Y refl, v SRC_W refl, v SRC_H refl, v ALPHA refl, v BLEND refl, v ZPOS refl, index) refl
+    rw (
+      v CRTC_ID refl,
+      v CRTC_X refl,
+      v CRTC_Y refl,
+      v CRTC_W refl,
+      v CRTC_H refl,
+      v SRC_X refl,
+      v SRC_Y refl,
+      v SRC_W refl,
+      v SRC_H refl,
+      v ALPHA refl,
+      v BLEND refl,
+      v ZPOS refl,
+      index,
+    ) refl
 
 -- what stands for a plane that is not there
 pub no_info : PlaneInfo
 no_info = record { kind = 0; crtcs = 0; formats = 0 }
 
-start_plane : (t : Topology) (p : ℕ) → IsDevice t → IsIn p (ids_of t Plane) → plane_words (plane_at [] (start t).values p) ≡ first_plane_words p
+start_plane : (t : Topology) (p : ℕ) → IsDevice t → IsIn p (ids_of t Plane) → plane_words (plane_at [] (start t).values p)
+    ≡ first_plane_words p
 start_plane t p device is =
     let o : IsObject t Plane p = ids-in t Plane p is in
     let index : index_of p ≡ o.index = ap (λ kind. p - first_id kind) (plane_kind t p (few_objects t device) is) ∙ omega (arith, o.same) in
@@ -46,7 +63,8 @@ start_plane t p device is =
 start_connector : (t : Topology) (c : ℕ) (conns : List ℕ) → IsDevice t → 0 < c → connector_on (start t).values c conns ≡ 0
 start_connector t c [] device l = refl
 start_connector t c (k ∷ ks) device l =
-    cond-false (crtc_at (start t).values k == c) k (connector_on (start t).values c ks) (ne_eqb _ c (λ e. absurd (omega (arith, e, start-crtc t k device))))
+    cond-false (crtc_at (start t).values k == c) k (connector_on (start t).values c ks)
+    (ne_eqb _ c (λ e. absurd (omega (arith, e, start-crtc t k device))))
     ∙ start_connector t c ks device l
 
 start_crtc_words : (t : Topology) (c : ℕ) → IsDevice t → IsIn c (ids_of t Crtc) → words_at t [] (start t).values c ≡ first_crtc_words
@@ -100,8 +118,28 @@ start_tail t device = record {
   };
   order = record { settled = λ k j o h. absurd (false≢true h) };
   shadow = record {
-    plane = λ p i. record { at = 0; within = omega arith; below = λ j l. absurd (omega arith); above = λ j h. absurd (false≢true h); says = refl };
-    crtc = λ c i. record { at = 0; within = omega arith; below = λ j l. absurd (omega arith); above = λ j h. absurd (false≢true h); says = refl };
+    plane = λ p i. record {
+      at = 0;
+      within = omega arith;
+      below = λ j l. absurd (omega arith);
+      above = λ j h. absurd (false≢true h);
+      says =
+          refl;
+    };
+    crtc = λ c i. record {
+      at = 0;
+      within = omega arith;
+      below = λ j l. absurd (omega arith);
+      above = λ j h. absurd (false≢true h);
+      says =
+          refl;
+    };
   };
-  shows = λ c. record { at = 0; within = omega arith; below = λ j l. absurd (omega arith); above = λ j h. absurd (none_latched j c h); says = refl };
+  shows = λ c. record {
+    at = 0;
+    within = omega arith;
+    below = λ j l. absurd (omega arith);
+    above = λ j h. absurd (none_latched j c h);
+    says = refl;
+  };
 }

@@ -1,5 +1,6 @@
 -- Things stay, with their content, under each command; so does what is read of a framebuffer.
-use Rattle.std.proofs.Common.{◌≡◌, ℕ, ◌+◌, Bool, true, false, cond, ◌==◌, List, [], ◌∷◌, ◌++◌, Option, Some, None, refl, sym, ap, ◌∙◌, inl, inr}
+use Rattle.std.proofs.Common.{◌≡◌, ℕ, ◌+◌, Bool, true, false, cond, ◌==◌, List, [], ◌∷◌, ◌++◌, Option, Some, None, refl, sym, ap, ◌∙◌, inl}
+use Rattle.std.proofs.Common.{inr}
 use Rattle.std.specs.Option.{option_map}
 use Rattle.std.proofs.lemmas.Bool.{cases_Bool, cond-true, cond-false}
 use Rattle.kms_model.specs.declared.objects.Kind.TheVariants.{Crtc}
@@ -15,7 +16,9 @@ use Rattle.kms_model.specs.declared.worlds.Content.TheVariants as content
 use Rattle.kms_model.specs.declared.worlds.Thing.{Thing}
 use Rattle.kms_model.specs.declared.worlds.World.{World}
 use Rattle.kms_model.specs.Device.Closing.{closed_if, closed_in}
-use Rattle.kms_model.specs.Device.Execution.{BufferInfo, add_fb, answer, buffer_of, close, close_refusal, close_unless, commit, committed, destroy_refusal, execute, make, make_out_fence, make_out_fences, make_unless, new_buffer_refusal, signal_refusal, signal_unless}
+use Rattle.kms_model.specs.Device.Execution.{BufferInfo, add_fb, answer, buffer_of, close, close_refusal, close_unless, commit, committed}
+use Rattle.kms_model.specs.Device.Execution.{destroy_refusal, execute, make, make_out_fence, make_out_fences, make_unless}
+use Rattle.kms_model.specs.Device.Execution.{new_buffer_refusal, signal_refusal, signal_unless}
 use Rattle.kms_model.specs.Device.Objects.{ids_of}
 use Rattle.kms_model.specs.Device.Serial.{Entry, command_of, execute_in, serial_from}
 use Rattle.kms_model.specs.Device.World.{thing_labelled, thing_with_id}
@@ -51,10 +54,12 @@ stay-trans a b c first second id t found =
 
 -- one thing more
 
-found-push : (things : List Thing) (u : Thing) (id : ℕ) (t : Thing) → thing_with_id things id ≡ Some t → thing_with_id (things ++ u ∷ []) id ≡ Some t
+found-push : (things : List Thing) (u : Thing) (id : ℕ) (t : Thing) → thing_with_id things id ≡ Some t → thing_with_id (things ++ u ∷ []) id
+    ≡ Some t
 found-push [] u id t found = absurd cc
 found-push (x ∷ xs) u id t found = elim (cases_Bool (x.id == id)) [
-  | inl here ↦ cond-true (x.id == id) (Some x) (thing_with_id (xs ++ u ∷ []) id) here ∙ sym (cond-true (x.id == id) (Some x) (thing_with_id xs id) here) ∙ found
+  | inl here ↦ cond-true (x.id == id) (Some x) (thing_with_id (xs ++ u ∷ []) id) here ∙ sym
+      (cond-true (x.id == id) (Some x) (thing_with_id xs id) here) ∙ found
   | inr away ↦
       cond-false (x.id == id) (Some x) (thing_with_id (xs ++ u ∷ []) id) away
       ∙ found-push xs u id t (sym (cond-false (x.id == id) (Some x) (thing_with_id xs id) away) ∙ found)
@@ -66,7 +71,12 @@ stay-push things u id t found = record { thing = t; found = found-push things u 
 -- a thing that is closed
 
 stay-closed : (things : List Thing) (at : ℕ) → Stay things (closed_in things at)
-stay-closed things at id t found = record { thing = closed_if at t; found = closed_with_id things at id ∙ ap (option_map (closed_if at)) found; same = (closed_same at t).content }
+stay-closed things at id t found = record {
+  thing = closed_if at t;
+  found = closed_with_id things at id ∙ ap (option_map (closed_if at))
+      found;
+  same = (closed_same at t).content;
+}
 
 -- Commands
 
@@ -97,13 +107,16 @@ stay-out_fence : (client : ℕ) (w : World) (label : Option ℕ) → Stay w.thin
 stay-out_fence client w None = stay-self w.things
 stay-out_fence client w (Some label) = stay-make w client label content.OutFence
 
-stay-out_fences : (client : ℕ) (assigns : List Assign) (w : World) (crtcs : List ℕ) → Stay w.things (make_out_fences client assigns w crtcs).things
+stay-out_fences : (client : ℕ) (assigns : List Assign) (w : World) (crtcs : List ℕ)
+    → Stay w.things (make_out_fences client assigns w crtcs).things
 stay-out_fences client assigns w [] = stay-self w.things
 stay-out_fences client assigns w (crtc ∷ crtcs) =
     let v = make_out_fence client w (out_fence_label assigns crtc) in
-    stay-trans w.things v.things (make_out_fences client assigns v crtcs).things (stay-out_fence client w (out_fence_label assigns crtc)) (stay-out_fences client assigns v crtcs)
+    stay-trans w.things v.things (make_out_fences client assigns v crtcs).things (stay-out_fence client w (out_fence_label assigns crtc))
+    (stay-out_fences client assigns v crtcs)
 
-stay-tested : (t : Topology) (w : World) (client : ℕ) (r : Request) (test : Bool) → Stay w.things (cond test (answer w reply.Tested) (committed t w client r)).world.things
+stay-tested : (t : Topology) (w : World) (client : ℕ) (r : Request) (test : Bool)
+    → Stay w.things (cond test (answer w reply.Tested) (committed t w client r)).world.things
 stay-tested t w client r true = stay-self w.things
 stay-tested t w client r false = stay-out_fences client r.assigns (record w { values = after w r; commits = w.commits + 1 }) (ids_of t Crtc)
 
@@ -113,12 +126,15 @@ stay-commit t w client r (Some n) = stay-self w.things
 
 pub stay-execute : (t : Topology) (w : World) (client : ℕ) (c : Command) → Stay w.things (execute t w client c).world.things
 unfolding execute
-stay-execute t w client (command.Buffer label width height format pattern) = stay-make_unless w client label (content.Buffer width height format pattern) (new_buffer_refusal w.things width height format)
+stay-execute t w client (command.Buffer label width height format pattern) = stay-make_unless w client label
+    (content.Buffer width height format pattern) (new_buffer_refusal w.things width height format)
 stay-execute t w client (command.AddFb label buffer) = stay-add_fb w client label (buffer_of w.things client buffer)
 stay-execute t w client (command.Mode label m) = stay-make w client label (content.Mode m)
 stay-execute t w client (command.Blob label bytes) = stay-make w client label (content.Blob bytes)
-stay-execute t w client (command.Destroy label) = stay-close_unless w (thing_labelled w.things label) (destroy_refusal client (thing_labelled w.things label))
-stay-execute t w client (command.CloseFb label) = stay-close_unless w (thing_labelled w.things label) (close_refusal client (thing_labelled w.things label))
+stay-execute t w client (command.Destroy label) = stay-close_unless w (thing_labelled w.things label)
+    (destroy_refusal client (thing_labelled w.things label))
+stay-execute t w client (command.CloseFb label) = stay-close_unless w (thing_labelled w.things label)
+    (close_refusal client (thing_labelled w.things label))
 stay-execute t w client (command.Fence label) = stay-make w client label content.Fence
 stay-execute t w client (command.Signal label) = stay-signal w (signal_refusal (thing_labelled w.things label))
 stay-execute t w client (command.Atomic r) = stay-commit t w client r (verdict t w r)
@@ -146,7 +162,8 @@ module _ (old new : List Thing) (stay : Stay old new) where
     b ← thing_with_id things id
     seen_in b.content
 
-  of_thing : (id : ℕ) (seen : Seen) (o : Option Thing) → thing_with_id old id ≡ o → (o >>= (λ b. seen_in b.content)) ≡ Some seen → (thing_with_id new id >>= (λ b. seen_in b.content)) ≡ Some seen
+  of_thing : (id : ℕ) (seen : Seen) (o : Option Thing) → thing_with_id old id ≡ o → (o >>= (λ b. seen_in b.content)) ≡ Some seen
+      → (thing_with_id new id >>= (λ b. seen_in b.content)) ≡ Some seen
   of_thing id seen None found e = absurd cc
   of_thing id seen (Some b) found e = let k = stay id b found in rw k.found (ap seen_in k.same ∙ e)
 
@@ -155,7 +172,9 @@ module _ (old new : List Thing) (stay : Stay old new) where
   of_buffer seen None e = absurd cc
   of_buffer seen (Some id) e = of_thing id seen (thing_with_id old id) refl e
 
-  of_framebuffer : (fb : ℕ) (seen : Seen) (o : Option Thing) → thing_with_id old fb ≡ o → (o >>= (λ f. buffer_id_in f.content >>= (λ id. thing_with_id old id >>= (λ b. seen_in b.content)))) ≡ Some seen → image_of new fb ≡ Some seen
+  of_framebuffer : (fb : ℕ) (seen : Seen) (o : Option Thing) → thing_with_id old fb ≡ o
+      → (o >>= (λ f. buffer_id_in f.content >>= (λ id. thing_with_id old id >>= (λ b. seen_in b.content)))) ≡ Some seen → image_of new fb
+      ≡ Some seen
   unfolding buffer_seen
   of_framebuffer fb seen None found e = absurd cc
   of_framebuffer fb seen (Some f) found e =

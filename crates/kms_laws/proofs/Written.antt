@@ -7,7 +7,8 @@ use Rattle.kms_model.specs.declared.objects.Topology.{Topology}
 use Rattle.kms_model.specs.Device.Objects.{ids_of, is_id_of}
 use Rattle.kms_model.specs.Machine.Commits.{new_connector, new_crtc, new_plane}
 use Rattle.kms_model.specs.Machine.Effects.{written_registers}
-use Rattle.kms_model.specs.Machine.Registers.{Registers, crtc_register, crtc_words, first_crtc_words, first_plane_words, plane_register, plane_words, write_crtc, write_plane}
+use Rattle.kms_model.specs.Machine.Registers.{Registers, crtc_register, crtc_words, first_crtc_words, first_plane_words, plane_register}
+use Rattle.kms_model.specs.Machine.Registers.{plane_words, write_crtc, write_plane}
 use Rattle.kms_model.specs.Machine.State.{DeviceState}
 use Rattle.kms_model.proofs.Items.{IsIn, IsObject, ids-in}
 use Rattle.kms_model.proofs.TouchedLemmas.{HasFewObjects}
@@ -17,7 +18,8 @@ use Rattle.kms_laws.proofs.Invariants.{crtc_after, plane_after}
 crtc_id : (t : Topology) (o : ℕ) → HasFewObjects t → IsIn o (ids_of t Crtc) → is_id_of Crtc o ≡ true
 crtc_id t o few is =
     let i : IsObject t Crtc o = ids-in t Crtc o is in
-    and_from (nat_le 100 o) (nat_lt o 104) (le-leb 100 o (omega (arith, i.same))) (lt-ltb o 104 (omega (arith, i.same, i.within, few.crtcs)))
+    and_from (nat_le 100 o) (nat_lt o 104) (le-leb 100 o (omega (arith, i.same)))
+    (lt-ltb o 104 (omega (arith, i.same, i.within, few.crtcs)))
 
 plane_no_crtc_id : (t : Topology) (o : ℕ) → IsIn o (ids_of t Plane) → is_id_of Crtc o ≡ false
 plane_no_crtc_id t o is =
@@ -26,9 +28,11 @@ plane_no_crtc_id t o is =
 
 module _ (t : Topology) (d : DeviceState) (k o : ℕ) where
   written_if : Bool → Registers
-  written_if b = if b then write_crtc d.shadow o (crtc_words (new_connector t d.commits k o) (new_crtc t d.commits k o)) else write_plane d.shadow o (plane_words (new_plane t d.commits k o))
+  written_if b = if b then write_crtc d.shadow o (crtc_words (new_connector t d.commits k o) (new_crtc t d.commits k o))
+      else write_plane d.shadow o (plane_words (new_plane t d.commits k o))
 
-  pub written-plane : (p : ℕ) → IsIn p (ids_of t Plane) → o ≡ p → plane_register (written_registers t d k o) p ≡ plane_after t d.commits (suc k) p
+  pub written-plane : (p : ℕ) → IsIn p (ids_of t Plane) → o ≡ p → plane_register (written_registers t d k o) p
+      ≡ plane_after t d.commits (suc k) p
   unfolding plane_after written_if
   written-plane p ip same =
       ap (λ b. plane_register (written_if b) p) (ap (is_id_of Crtc) same ∙ plane_no_crtc_id t p ip)
@@ -43,7 +47,8 @@ module _ (t : Topology) (d : DeviceState) (k o : ℕ) where
       by_test true = refl
       by_test false = read_other (first_plane_words p) d.shadow.planes o p (plane_words (new_plane t d.commits k o)) ne
 
-  pub written-crtc : (c : ℕ) → HasFewObjects t → IsIn c (ids_of t Crtc) → o ≡ c → crtc_register (written_registers t d k o) c ≡ crtc_after t d.commits (suc k) c
+  pub written-crtc : (c : ℕ) → HasFewObjects t → IsIn c (ids_of t Crtc) → o ≡ c → crtc_register (written_registers t d k o) c
+      ≡ crtc_after t d.commits (suc k) c
   unfolding crtc_after written_if
   written-crtc c few ic same =
       ap (λ b. crtc_register (written_if b) c) (ap (is_id_of Crtc) same ∙ crtc_id t c few ic)
@@ -55,5 +60,6 @@ module _ (t : Topology) (d : DeviceState) (k o : ℕ) where
   other-crtc c ne = by_test (is_id_of Crtc o)
     where
       by_test : (b : Bool) → crtc_register (written_if b) c ≡ crtc_register d.shadow c
-      by_test true = read_other first_crtc_words d.shadow.crtcs o c (crtc_words (new_connector t d.commits k o) (new_crtc t d.commits k o)) ne
+      by_test true = read_other first_crtc_words d.shadow.crtcs o c (crtc_words (new_connector t d.commits k o) (new_crtc t d.commits k o))
+          ne
       by_test false = refl

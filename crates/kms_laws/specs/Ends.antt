@@ -61,8 +61,10 @@ FinishedIsOne = (s : Script) (h finished other : List Step) → IsFinished s h f
 
 -- No history of a generated script is dead.
 abbrev pub GeneratedNeverDead : Type 0
-GeneratedNeverDead = (seed n : ℕ) (h : List Step) → is_history (generated seed n) h ≡ true → is_dead (generated seed n) (at (generated seed n) h) ≡ false
+GeneratedNeverDead = (seed n : ℕ) (h : List Step) → is_history (generated seed n) h ≡ true
+    → is_dead (generated seed n) (at (generated seed n) h) ≡ false
 
 -- So the history that one thread makes of it is drained.
 abbrev pub GeneratedDrains : Type 0
-GeneratedDrains = (seed n : ℕ) (h : List Step) → IsOne (generated seed n) h → (is_history (generated seed n) h ≡ true) × (is_drained (generated seed n) (at (generated seed n) h) ≡ true)
+GeneratedDrains = (seed n : ℕ) (h : List Step) → IsOne (generated seed n) h → (is_history (generated seed n) h ≡ true)
+    × (is_drained (generated seed n) (at (generated seed n) h) ≡ true)

@@ -79,9 +79,11 @@ has_context (doing.Returning k) = false
 -- locks or must back off. No two contexts have one ticket. A client that returns waits for a commit that is there.
 pub record ContextsStand (s : Script) (m : Machine) : Type 0 where
   pub held : (client object : ℕ) → holds m client object ≡ true → has_number (lockable s.topology) object ≡ true
-  pub holders : (client object : ℕ) → holds m client object ≡ true → (is_taking (doing_at m client) || must_back_off (doing_at m client)) ≡ true
+  pub holders : (client object : ℕ) → holds m client object ≡ true → (is_taking (doing_at m client) || must_back_off (doing_at m client))
+      ≡ true
   pub taken_first : (client object : ℕ) → contended (doing_at m client) ≡ Some object → has_number (lockable s.topology) object ≡ true
-  pub tickets : (a b : ℕ) → has_context (doing_at m a) ≡ true → has_context (doing_at m b) ≡ true → ticket_of (doing_at m a) ≡ ticket_of (doing_at m b) → a ≡ b
+  pub tickets : (a b : ℕ) → has_context (doing_at m a) ≡ true → has_context (doing_at m b) ≡ true → ticket_of (doing_at m a)
+      ≡ ticket_of (doing_at m b) → a ≡ b
   pub commits : (client k : ℕ) → returning_of (doing_at m client) ≡ Some k → k < length m.device.commits
 
 -- Look-ups that grew old
@@ -97,7 +99,8 @@ pub record AsksWithinReach (t : Topology) (now : World) (r : Request) (resolved 
 -- Where a request was resolved with what its labels named after a history, and states were duplicated after more steps, a check
 -- asks for objects within the reach of the request then.
 abbrev pub OldLookUpsAskWithinReach : Type 0
-OldLookUpsAskWithinReach = InEachHistory (λ s h. (steps : List Step) → are_legal s (at s h) steps ≡ true → (r : Request) (resolved : Resolved) (d : Duplicates)
+OldLookUpsAskWithinReach = InEachHistory (λ s h. (steps : List Step) → are_legal s (at s h) steps ≡ true
+    → (r : Request) (resolved : Resolved) (d : Duplicates)
     → IsResolved s.topology (look_up (at s h).device.world) r resolved
     → AgreesOld s.topology (run_steps s (at s h) steps).device.world.things (run_steps s (at s h) steps).device.world.values d
     → AsksWithinReach s.topology (run_steps s (at s h) steps).device.world r resolved d)

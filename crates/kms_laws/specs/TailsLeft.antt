@@ -82,4 +82,5 @@ AllTailsGetShorter = AtEachStep (λ s m step. LeavesLessInAll s.topology m (next
 
 -- nothing is left of a commit that is cleaned
 abbrev pub CleanedTailsAreOver : Type 0
-CleanedTailsAreOver = InEachHistory (λ s h. (k : ℕ) → has_number (at s h).device.marks.cleaned k ≡ true → tail_left s.topology (at s h) k ≡ 0)
+CleanedTailsAreOver = InEachHistory (λ s h. (k : ℕ) → has_number (at s h).device.marks.cleaned k ≡ true → tail_left s.topology (at s h) k
+    ≡ 0)

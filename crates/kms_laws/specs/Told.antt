@@ -15,7 +15,8 @@ use Rattle.kms_model.specs.Report.Right.{events_told}
 
 -- each picture that was latched can be composed over the present things
 abbrev pub LatchesCanBeShown : Type 0
-LatchesCanBeShown = InEachHistory (λ s h. All (λ l. EachCanBeShown (at s h).device.world.things l.picture) (reverse (at s h).records.latches))
+LatchesCanBeShown = InEachHistory (λ s h. All (λ l. EachCanBeShown (at s h).device.world.things l.picture)
+    (reverse (at s h).records.latches))
 
 -- What a CRTC showed, by its id, has the same frame over the things of each later moment, whatever entries come between.
 abbrev pub FramesStay : Type 0

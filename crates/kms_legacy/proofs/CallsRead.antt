@@ -11,7 +11,9 @@ use Rattle.kms_model.specs.declared.objects.Topology.{Topology}
 use Rattle.kms_model.specs.declared.pictures.Rect.{Rect}
 use Rattle.kms_model.specs.declared.properties.TheConstants.{CRTC_X, CRTC_Y, CRTC_W, CRTC_H, SRC_X, SRC_Y, SRC_W, SRC_H}
 use Rattle.kms_model.specs.Device.Objects.{exists}
-use Rattle.kms_model.specs.Legacy.LegacyCalls.{call_may_stand, call_read, corner_at, cursor_fields, cursor_read, destination_at, event_word, index_at, is_number, is_off, is_rect, named_at, pageflip_read, part_at, ranged_at, rect_at, setcrtc_fields, setcrtc_read, setplane_fields, setplane_read}
+use Rattle.kms_model.specs.Legacy.LegacyCalls.{call_may_stand, call_read, corner_at, cursor_fields, cursor_read, destination_at, event_word}
+use Rattle.kms_model.specs.Legacy.LegacyCalls.{index_at, is_number, is_off, is_rect, named_at, pageflip_read, part_at, ranged_at, rect_at}
+use Rattle.kms_model.specs.Legacy.LegacyCalls.{setcrtc_fields, setcrtc_read, setplane_fields, setplane_read}
 use Rattle.kms_model.specs.Script.CommandLines.{Names, place, saying}
 use Rattle.kms_model.specs.Script.Grammar.{int}
 use Rattle.kms_model.specs.Script.WellFormed.{is_label_in}

@@ -1,5 +1,6 @@
 -- The line behind a device's lines: `client` alone may stand there.
-use Rattle.std.proofs.Common.{◌≡◌, ℕ, ◌+◌, Bool, true, false, List, [], ◌∷◌, ◌++◌, append-nil, cond, Option, Some, None, Ok, Err, refl, sym, ap, subst, ◌∙◌}
+use Rattle.std.proofs.Common.{◌≡◌, ℕ, ◌+◌, Bool, true, false, List, [], ◌∷◌, ◌++◌, append-nil, cond, Option, Some, None, Ok, Err, refl, sym}
+use Rattle.std.proofs.Common.{ap, subst, ◌∙◌}
 use Rattle.std.specs.Prelude.{◌&&◌, codes, is_some, length, nat_lt}
 use Rattle.std.specs.List.{list_all}
 use Rattle.std.specs.Str.{bytes_eq}
@@ -11,7 +12,8 @@ use Rattle.kms_model.specs.Legacy.LegacyLines.{legacy_line, legacy_line_after}
 use Rattle.kms_model.specs.Script.CommandLines.{command_read, or_form}
 use Rattle.kms_model.specs.Script.Grammar.{is_printable}
 use Rattle.kms_model.specs.Script.InputLines.{Row}
-use Rattle.kms_model.specs.Script.WholeInput.{Lined, client_line, command_line, conn_at, conn_line, is_conn_of, is_nil, later_line, plane_fields, plane_line, script_limit, script_line}
+use Rattle.kms_model.specs.Script.WholeInput.{Lined, client_line, command_line, conn_at, conn_line, is_conn_of, is_nil, later_line}
+use Rattle.kms_model.specs.Script.WholeInput.{plane_fields, plane_line, script_limit, script_line}
 use Rattle.kms_model.specs.Script.Words.{end_at, from, until}
 use Rattle.kms_script.proofs.LineFields.{until_from}
 use Rattle.kms_legacy.specs.Reading.{device_draft, device_part}

@@ -1,5 +1,6 @@
 -- The accepted requests that turn a CRTC on or off keep the screen that has it so.
-use Rattle.std.proofs.Common.{◌≡◌, ℕ, ◌<◌, ◌≤◌, ◌⊎◌, Bool, true, false, not, inl, inr, List, [], ◌∷◌, ◌++◌, append_assoc, cond, length, map, Option, Some, None, pos, refl, sym, ap, subst, ◌∙◌, arith}
+use Rattle.std.proofs.Common.{◌≡◌, ℕ, ◌<◌, ◌≤◌, ◌⊎◌, Bool, true, false, not, inl, inr, List, [], ◌∷◌, ◌++◌, append_assoc, cond, length, map}
+use Rattle.std.proofs.Common.{Option, Some, None, pos, refl, sym, ap, subst, ◌∙◌, arith}
 use Rattle.std.specs.Prelude.{◌==◌, ◌&&◌, filter, is_some, nat_lt}
 use Rattle.std.proofs.lemmas.Bool.{cases_Bool, eq-eqb, eqb-true}
 use Rattle.kms_model.specs.declared.objects.Kind.TheVariants.{Crtc, Plane, Conn}
@@ -24,7 +25,8 @@ use Rattle.kms_model.specs.Legacy.Screen.{Lit, Placed, Screen, lit_at, lit_in, p
 use Rattle.kms_model.specs.Legacy.Translation.{conns_now, crtc_on, in_fixed, mode_size, others, plane_on, present_in, sized_at}
 use Rattle.kms_model.specs.Machine.Registers.{read}
 use Rattle.kms_model.specs.Request.Apply.{after, apply}
-use Rattle.kms_model.specs.Request.Checks.{clone_refusal_at, conn_refusal_at, conns_on, crtc_refusal_at, event_refusal, late_refusal, plane_refusal_at, route_refusal_at, with_ids}
+use Rattle.kms_model.specs.Request.Checks.{clone_refusal_at, conn_refusal_at, conns_on, crtc_refusal_at, event_refusal, late_refusal}
+use Rattle.kms_model.specs.Request.Checks.{plane_refusal_at, route_refusal_at, with_ids}
 use Rattle.kms_model.specs.Request.Lookups.{look_up}
 use Rattle.kms_model.specs.Request.Named.{differs}
 use Rattle.kms_model.specs.Request.Sets.{fb_of_look, mode_of_look}
@@ -35,7 +37,10 @@ use Rattle.kms_model.specs.Script.Generated.{assigns_to}
 use Rattle.kms_model.proofs.AppliedValues.{value-apply_unset}
 use Rattle.kms_model.proofs.Items.{IsIn, first_some-at, ids-has, ids-in, number_if-none, or_else-none}
 use Rattle.kms_model.proofs.SoundKept.{accepted-parts}
-use Rattle.kms_legacy.proofs.PlaneCalls.{IsPlainList, away_after, changed, conn_crtc_apart, conn_plane_apart, conns_apart, crtc_conn_apart, crtc_plane_apart, crtcs_apart, fb_there, last_behind, mode_named, mode_there, or_none, plain_planes, plane_conn_apart, plane_crtc_apart, planes_after, planes_apart, put_after, read_first, read_other, unset_apart, unset_both, unset_last}
+use Rattle.kms_legacy.proofs.PlaneCalls.{IsPlainList, away_after, changed, conn_crtc_apart, conn_plane_apart, conns_apart, crtc_conn_apart}
+use Rattle.kms_legacy.proofs.PlaneCalls.{crtc_plane_apart, crtcs_apart, fb_there, last_behind, mode_named, mode_there, or_none}
+use Rattle.kms_legacy.proofs.PlaneCalls.{plain_planes, plane_conn_apart, plane_crtc_apart, planes_after, planes_apart, put_after}
+use Rattle.kms_legacy.proofs.PlaneCalls.{read_first, read_other, unset_apart, unset_both, unset_last}
 use Rattle.kms_legacy.proofs.OneCall.{IsKeptBy, allowed_at, in_behind, kept_value, off_of, off_plain, put_of, put_plain, set_value_to}
 use Rattle.kms_legacy.proofs.ScreenShown.{HasLit, IsLit, IsPlaced, IsScreenOf, no_clones, off_crtc, only_conn}
 

@@ -1,15 +1,18 @@
 -- A script with older calls has the device of a script at its front, and is read on from there.
-use Rattle.std.proofs.Common.{◌≡◌, ℕ, ◌+◌, ◌≤◌, inl, inr, Bool, true, false, List, [], ◌∷◌, ◌++◌, length, length-append, append_assoc, cond, Ok, Err, refl, sym, ap, subst, ◌∙◌, zero-add, arith}
+use Rattle.std.proofs.Common.{◌≡◌, ℕ, ◌+◌, ◌≤◌, inl, inr, Bool, true, false, List, [], ◌∷◌, ◌++◌, length, length-append, append_assoc, cond}
+use Rattle.std.proofs.Common.{Ok, Err, refl, sym, ap, subst, ◌∙◌, zero-add, arith}
 use Rattle.std.specs.Prelude.{◌&&◌, Result, drop, not}
 use Rattle.std.specs.List.{list_all}
 use Rattle.std.proofs.lemmas.Bool.{cases_Bool}
 use Rattle.kms_model.specs.declared.objects.Topology.{Topology}
 use Rattle.kms_model.specs.declared.scripts.Why.TheVariants.{Bytes, Cut}
-use Rattle.kms_model.specs.Legacy.LegacyLines.{LegacyDraft, LegacyLined, blank_legacy_draft, followed_by, legacy_line, legacy_line_after, legacy_lines_after, legacy_sized, or_legacy_fault}
+use Rattle.kms_model.specs.Legacy.LegacyLines.{LegacyDraft, LegacyLined, blank_legacy_draft, followed_by, legacy_line, legacy_line_after}
+use Rattle.kms_model.specs.Legacy.LegacyLines.{legacy_lines_after, legacy_sized, or_legacy_fault}
 use Rattle.kms_model.specs.Script.CommandLines.{unless}
 use Rattle.kms_model.specs.Script.Grammar.{is_printable}
 use Rattle.kms_model.specs.Script.InputLines.{Fault, Row, rows_of}
-use Rattle.kms_model.specs.Script.WholeInput.{Draft, Lined, blank_draft, device_after, device_of, is_conn_of, is_done, is_nil, line_after, missing_line, or_fault, script_limit, script_line, sized, topology_in}
+use Rattle.kms_model.specs.Script.WholeInput.{Draft, Lined, blank_draft, device_after, device_of, is_conn_of, is_done, is_nil, line_after}
+use Rattle.kms_model.specs.Script.WholeInput.{missing_line, or_fault, script_limit, script_line, sized, topology_in}
 use Rattle.kms_legacy.specs.Reading.{BeginsWithoutConn, HasDevice, device_draft, line_behind}
 use Rattle.kms_legacy.proofs.AloneLines.{alone_line, plain_draft}
 use Rattle.kms_legacy.proofs.EarlyLines.{IsEarly, blank_early, early_is, early_number, row_early}

@@ -1,5 +1,6 @@
 -- What stands between two lines of a device, and behind them.
-use Rattle.std.proofs.Common.{◌≡◌, ℕ, ◌+◌, ◌≤◌, ◌⊎◌, inl, inr, Bool, true, false, List, [], ◌∷◌, ◌++◌, length, length-append, Ok, Err, refl, sym, ap, subst, ◌∙◌, arith}
+use Rattle.std.proofs.Common.{◌≡◌, ℕ, ◌+◌, ◌≤◌, ◌⊎◌, inl, inr, Bool, true, false, List, [], ◌∷◌, ◌++◌, length, length-append, Ok, Err, refl}
+use Rattle.std.proofs.Common.{sym, ap, subst, ◌∙◌, arith}
 use Rattle.std.specs.Prelude.{◌&&◌, ◌||◌, ◌==◌, codes, is_some, not, nat_le, nat_lt}
 use Rattle.std.specs.List.{list_all}
 use Rattle.std.specs.Str.{bytes_eq}
@@ -9,7 +10,9 @@ use Rattle.kms_model.specs.declared.scripts.Why.TheVariants.{Bytes, Cut, Form, L
 use Rattle.kms_model.specs.Script.CommandLines.{Names, command_read, unmade}
 use Rattle.kms_model.specs.Script.Grammar.{is_printable}
 use Rattle.kms_model.specs.Script.InputLines.{Row}
-use Rattle.kms_model.specs.Script.WholeInput.{Draft, Lined, blank_draft, client_line, command_line, conn_at, conn_line, crtcs_at, crtcs_line, first_line, is_conn_of, is_done, is_nil, later_line, line_after, plane_fields, plane_line, script_limit, script_line, sized, topology_in, version_read}
+use Rattle.kms_model.specs.Script.WholeInput.{Draft, Lined, blank_draft, client_line, command_line, conn_at, conn_line, crtcs_at}
+use Rattle.kms_model.specs.Script.WholeInput.{crtcs_line, first_line, is_conn_of, is_done, is_nil, later_line, line_after, plane_fields}
+use Rattle.kms_model.specs.Script.WholeInput.{plane_line, script_limit, script_line, sized, topology_in, version_read}
 use Rattle.kms_model.specs.Script.Words.{end_at, from, until}
 use Rattle.kms_script.proofs.Accepted.{accepted, either_ok, form_ok, if_ok, ok_same, on_from, unless_ok}
 use Rattle.kms_script.proofs.Sizes.{line_same, relined, resized}

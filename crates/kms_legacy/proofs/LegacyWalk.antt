@@ -1,5 +1,6 @@
 -- A script with older calls that bytes spell, line by line: its device, the line `client`, and the lines of commands.
-use Rattle.std.proofs.Common.{◌≡◌, ℕ, ◌+◌, ◌≤◌, ◌⊎◌, inl, inr, Bool, true, false, List, [], ◌∷◌, ◌++◌, codes, cond, append-nil, append_assoc, length, Some, None, Ok, Err, refl, sym, ap, subst, ◌∙◌, arith}
+use Rattle.std.proofs.Common.{◌≡◌, ℕ, ◌+◌, ◌≤◌, ◌⊎◌, inl, inr, Bool, true, false, List, [], ◌∷◌, ◌++◌, codes, cond, append-nil}
+use Rattle.std.proofs.Common.{append_assoc, length, Some, None, Ok, Err, refl, sym, ap, subst, ◌∙◌, arith}
 use Rattle.std.specs.Prelude.{◌&&◌, ◌||◌, nat_le, nat_lt, option_map}
 use Rattle.std.specs.List.{list_all}
 use Rattle.std.specs.Result.{result_ok}
@@ -14,7 +15,8 @@ use Rattle.kms_model.specs.declared.objects.Topology.{Topology}
 use Rattle.kms_model.specs.declared.scripts.Command.{Command}
 use Rattle.kms_model.specs.declared.scripts.Why.TheVariants.{Form, Label, Limit}
 use Rattle.kms_model.specs.Legacy.LegacyCalls.{call_read, is_call_word, legacy_command_read}
-use Rattle.kms_model.specs.Legacy.LegacyLines.{LegacyDraft, LegacyLined, SpellsLegacy, blank_legacy_draft, followed_by, legacy_command_line, legacy_line, legacy_script_in, spelt_legacy_line, spelt_legacy_lines}
+use Rattle.kms_model.specs.Legacy.LegacyLines.{LegacyDraft, LegacyLined, SpellsLegacy, blank_legacy_draft, followed_by, legacy_command_line}
+use Rattle.kms_model.specs.Legacy.LegacyLines.{legacy_line, legacy_script_in, spelt_legacy_line, spelt_legacy_lines}
 use Rattle.kms_model.specs.Script.CommandLines.{Names, command_read, unmade, words_in}
 use Rattle.kms_model.specs.Script.Grammar.{is_printable}
 use Rattle.kms_model.specs.Script.InputLines.{Row, rows_of}

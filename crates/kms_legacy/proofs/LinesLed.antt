@@ -1,6 +1,7 @@
 -- Commands that are passed, one after the other, are the translation of those of the old script, with all names that the new
 -- one says in the end.
-use Rattle.std.proofs.Common.{◌≡◌, ℕ, suc, ◌+◌, ◌<◌, ◌≤◌, ◌⊎◌, inl, inr, Bool, true, false, not, cond, arith, List, [], ◌∷◌, ◌++◌, get_or, take, length, length-append, append-nil, append_assoc, Option, Some, None, refl, sym, ap, subst, ◌∙◌}
+use Rattle.std.proofs.Common.{◌≡◌, ℕ, suc, ◌+◌, ◌<◌, ◌≤◌, ◌⊎◌, inl, inr, Bool, true, false, not, cond, arith, List, [], ◌∷◌, ◌++◌, get_or}
+use Rattle.std.proofs.Common.{take, length, length-append, append-nil, append_assoc, Option, Some, None, refl, sym, ap, subst, ◌∙◌}
 use Rattle.std.specs.Prelude.{◌==◌, nat_lt}
 use Rattle.std.specs.List.{AllByRecursion, position_or_len}
 use Rattle.std.specs.Str.{bytes_eq}
@@ -18,7 +19,8 @@ use Rattle.kms_model.specs.declared.worlds.Thing.{Thing}
 use Rattle.kms_model.specs.declared.worlds.World.{World}
 use Rattle.kms_model.specs.Device.Execution.{execute}
 use Rattle.kms_model.specs.Device.World.{thing_labelled}
-use Rattle.kms_model.specs.Legacy.Translated.{AreTranslated, SaysNext, SaysSame, after_line, fb_of_call, look_anew, meant, mode_of_call, translated}
+use Rattle.kms_model.specs.Legacy.Translated.{AreTranslated, SaysNext, SaysSame, after_line, fb_of_call, look_anew, meant, mode_of_call}
+use Rattle.kms_model.specs.Legacy.Translated.{translated}
 use Rattle.kms_model.specs.Request.Lookups.{look_of, look_up}
 use Rattle.kms_model.specs.Request.Sets.{fb_of_look, mode_of_look}
 use Rattle.kms_model.specs.Script.CommandLines.{Name, Names, command_read, words_in}

@@ -10,7 +10,9 @@ use Rattle.kms_model.specs.Legacy.Translated.{lone_commands}
 use Rattle.kms_model.specs.Script.CommandLines.{Names, command_read, is_over, unmade, words_in}
 use Rattle.kms_model.specs.Script.InputLines.{Row, rows_of}
 use Rattle.kms_model.specs.Script.Spelling.{Spells, spelt_line, spelt_lines}
-use Rattle.kms_model.specs.Script.WholeInput.{Draft, blank_draft, client_line, clients_in, clients_of, command_line, conn_at, conn_line, crtcs_at, crtcs_line, first_line, is_nil, later_line, plane_fields, plane_line, script_in, script_line, version_read}
+use Rattle.kms_model.specs.Script.WholeInput.{Draft, blank_draft, client_line, clients_in, clients_of, command_line, conn_at, conn_line}
+use Rattle.kms_model.specs.Script.WholeInput.{crtcs_at, crtcs_line, first_line, is_nil, later_line, plane_fields, plane_line, script_in}
+use Rattle.kms_model.specs.Script.WholeInput.{script_line, version_read}
 use Rattle.kms_model.specs.Script.Words.{end_at, from, until}
 use Rattle.kms_script.proofs.Accepted.{accepted, either_ok, form_ok, if_ok, ok_same, on_from, unless_ok}
 use Rattle.kms_script.proofs.DraftGrows.{IsInOrder, with_client, with_version}

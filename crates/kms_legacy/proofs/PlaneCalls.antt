@@ -1,5 +1,6 @@
 -- What the accepted requests of calls leave of a plane, and that those of one plane alone keep the screen.
-use Rattle.std.proofs.Common.{◌≡◌, ℕ, ◌<◌, ◌≤◌, Bool, true, false, List, [], ◌∷◌, ◌++◌, cond, length, Option, Some, None, pos, refl, sym, ap, subst, ◌∙◌, arith}
+use Rattle.std.proofs.Common.{◌≡◌, ℕ, ◌<◌, ◌≤◌, Bool, true, false, List, [], ◌∷◌, ◌++◌, cond, length, Option, Some, None, pos, refl, sym}
+use Rattle.std.proofs.Common.{ap, subst, ◌∙◌, arith}
 use Rattle.std.specs.Bool.{⊤}
 use Rattle.std.specs.Prelude.{◌==◌, is_some}
 use Rattle.std.specs.Result.{result_ok}
@@ -10,7 +11,8 @@ use Rattle.kms_model.specs.declared.objects.Mode.{Mode}
 use Rattle.kms_model.specs.declared.objects.Topology.{Topology}
 use Rattle.kms_model.specs.declared.pictures.FbInfo.{FbInfo}
 use Rattle.kms_model.specs.declared.pictures.Rect.{Rect}
-use Rattle.kms_model.specs.declared.properties.TheConstants.{ACTIVE, ALPHA, BLEND, CRTC_H, CRTC_ID, CRTC_W, CRTC_X, CRTC_Y, FB_ID, GAMMA_LUT, MODE_ID, SRC_H, SRC_W, SRC_X, SRC_Y, ZPOS}
+use Rattle.kms_model.specs.declared.properties.TheConstants.{ACTIVE, ALPHA, BLEND, CRTC_H, CRTC_ID, CRTC_W, CRTC_X, CRTC_Y, FB_ID}
+use Rattle.kms_model.specs.declared.properties.TheConstants.{GAMMA_LUT, MODE_ID, SRC_H, SRC_W, SRC_X, SRC_Y, ZPOS}
 use Rattle.kms_model.specs.declared.scripts.Assign.{Assign}
 use Rattle.kms_model.specs.declared.scripts.Value.{Value}
 use Rattle.kms_model.specs.declared.scripts.Value.TheVariants as value

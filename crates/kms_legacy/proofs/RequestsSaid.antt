@@ -1,5 +1,6 @@
 -- The request of a call is one that words of the old script's names spell, and it makes no label.
-use Rattle.std.proofs.Common.{◌≡◌, ℕ, zero, suc, ◌+◌, ◌*◌, ◌<◌, ◌≤◌, ◌^◌, Bool, true, false, not, List, [], ◌∷◌, ◌++◌, cond, length, length-append, map, Option, Some, None, Ok, Err, ℤ, pos, negsuc, refl, ap, subst, ◌∙◌, arith}
+use Rattle.std.proofs.Common.{◌≡◌, ℕ, zero, suc, ◌+◌, ◌*◌, ◌<◌, ◌≤◌, ◌^◌, Bool, true, false, not, List, [], ◌∷◌, ◌++◌, cond, length}
+use Rattle.std.proofs.Common.{length-append, map, Option, Some, None, Ok, Err, ℤ, pos, negsuc, refl, ap, subst, ◌∙◌, arith}
 use Rattle.std.specs.Prelude.{◌==◌, Result, filter, nat_le, nat_lt}
 use Rattle.std.specs.List.{list_all, range_with_len}
 use Rattle.std.proofs.lemmas.Bool.{and_from, and_parts, le-leb, leb-true, ltb-true}
@@ -20,7 +21,9 @@ use Rattle.kms_model.specs.Device.Objects.{exists, indices_of, object_id}
 use Rattle.kms_model.specs.Device.Properties.{keeps_limits}
 use Rattle.kms_model.specs.Device.Sound.{IsDevice}
 use Rattle.kms_model.specs.Legacy.LegacyCalls.{is_number, is_rect}
-use Rattle.kms_model.specs.Legacy.Translation.{Present, asks, call_request, changes_format, conns_now, crtc_on, cursor, fb_size, flip_request, in_fixed, mode_size, others, plane_on, primary, sized_at, special_plane, with_plane}
+use Rattle.kms_model.specs.Legacy.Translation.{Present, asks, call_request, changes_format, conns_now, crtc_on, cursor, fb_size}
+use Rattle.kms_model.specs.Legacy.Translation.{flip_request, in_fixed, mode_size, others, plane_on, primary, sized_at, special_plane}
+use Rattle.kms_model.specs.Legacy.Translation.{with_plane}
 use Rattle.kms_model.specs.Request.Resolves.{IsSettableNumber}
 use Rattle.kms_model.specs.Script.Assigning.{conn_off, crtc_off, plane_off}
 use Rattle.kms_model.specs.Script.Generated.{assigns_to}

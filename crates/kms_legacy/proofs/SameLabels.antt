@@ -5,7 +5,9 @@ use Rattle.std.specs.Str.{bytes_eq}
 use Rattle.std.proofs.lemmas.Bool.{false≢true}
 use Rattle.kms_model.specs.declared.scripts.Command.{Command}
 use Rattle.kms_model.specs.declared.scripts.Command.TheVariants as command
-use Rattle.kms_model.specs.Script.CommandLines.{Names, addfb_read, atomic_read, blob_read, buffer_read, command_read, label_alone, label_read, making, making_read, mode_fields, mode_read, naming_read, pattern_at, saying, thing_read, was_made}
+use Rattle.kms_model.specs.Script.CommandLines.{Names, addfb_read, atomic_read, blob_read, buffer_read, command_read, label_alone}
+use Rattle.kms_model.specs.Script.CommandLines.{label_read, making, making_read, mode_fields, mode_read, naming_read, pattern_at, saying}
+use Rattle.kms_model.specs.Script.CommandLines.{thing_read, was_made}
 use Rattle.kms_model.specs.Script.Grammar.{blob_bytes, format_at}
 use Rattle.kms_model.specs.Script.Words.{◌>>=◌, dec_at, end_at, field_at, from, label_at, until}
 use Rattle.kms_script.proofs.LabelsMade.{made_makes, said_keeps}

@@ -19,7 +19,8 @@ use Rattle.kms_model.specs.Device.Objects.{indices_of, object_id}
 use Rattle.kms_model.specs.Device.Places.{state_at}
 use Rattle.kms_model.specs.Device.States.{plane_at}
 use Rattle.kms_model.specs.Legacy.Translated.{fb_of_call, look_anew, mode_of_call, translated}
-use Rattle.kms_model.specs.Legacy.Translation.{Present, call_request, conns_now, flip_request, present_in, present_of, primary, special_plane, special_planes, suits, with_plane}
+use Rattle.kms_model.specs.Legacy.Translation.{Present, call_request, conns_now, flip_request, present_in, present_of, primary}
+use Rattle.kms_model.specs.Legacy.Translation.{special_plane, special_planes, suits, with_plane}
 use Rattle.kms_model.specs.Machine.Commits.{has_number}
 use Rattle.kms_model.specs.Request.Agreement.{AreOld, conn_state_at}
 use Rattle.kms_model.proofs.Items.{IsIn, filter-same}

@@ -1,5 +1,6 @@
 -- The script that is translated command by command shows the screen of the older calls, after each of them.
-use Rattle.std.proofs.Common.{◌≡◌, ℕ, zero, suc, ◌+◌, ◌<◌, ◌≤◌, Bool, true, false, inl, inr, List, [], ◌∷◌, ◌++◌, codes, append-nil, append_assoc, length, length-append, map, Option, Some, None, Ok, Err, refl, sym, ap, subst, ◌∙◌, arith}
+use Rattle.std.proofs.Common.{◌≡◌, ℕ, zero, suc, ◌+◌, ◌<◌, ◌≤◌, Bool, true, false, inl, inr, List, [], ◌∷◌, ◌++◌, codes, append-nil}
+use Rattle.std.proofs.Common.{append_assoc, length, length-append, map, Option, Some, None, Ok, Err, refl, sym, ap, subst, ◌∙◌, arith}
 use Rattle.std.specs.Prelude.{IfOk, Result, slice_get}
 use Rattle.std.specs.List.{AllByRecursion, list_all}
 use Rattle.std.specs.Str.{bytes_eq}
@@ -31,7 +32,8 @@ use Rattle.kms_model.specs.Device.Sound.{IsDevice, IsLawful}
 use Rattle.kms_model.specs.Device.States.{crtc_at, gamma_at, mode_at, natural, plane_at}
 use Rattle.kms_model.specs.Device.World.{start, value}
 use Rattle.kms_model.specs.Legacy.LegacyCalls.{call_may_stand}
-use Rattle.kms_model.specs.Legacy.Screen.{KeepsScreen, Lit, Screen, ShowsAlong, ShowsScreen, blank_screen, lit_at, screen_after, screen_next}
+use Rattle.kms_model.specs.Legacy.Screen.{KeepsScreen, Lit, Screen, ShowsAlong, ShowsScreen, blank_screen, lit_at, screen_after}
+use Rattle.kms_model.specs.Legacy.Screen.{screen_next}
 use Rattle.kms_model.specs.Legacy.Translated.{after_line, fb_of_call, look_anew, lone_commands, meant, mode_of_call, renumbered, translated}
 use Rattle.kms_model.specs.Legacy.Translation.{present_in}
 use Rattle.kms_model.specs.Machine.Registers.{read}

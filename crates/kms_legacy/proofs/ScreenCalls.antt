@@ -1,5 +1,6 @@
 -- Each accepted call keeps the screen that it changes in its own words.
-use Rattle.std.proofs.Common.{◌≡◌, ℕ, ◌+◌, Bool, true, false, not, List, [], ◌∷◌, ◌++◌, cond, map, Option, Some, None, Ok, Err, pos, refl, sym, ap, subst, ◌∙◌, arith}
+use Rattle.std.proofs.Common.{◌≡◌, ℕ, ◌+◌, Bool, true, false, not, List, [], ◌∷◌, ◌++◌, cond, map, Option, Some, None, Ok, Err, pos, refl}
+use Rattle.std.proofs.Common.{sym, ap, subst, ◌∙◌, arith}
 use Rattle.std.specs.Prelude.{◌==◌, Result}
 use Rattle.std.proofs.lemmas.Bool.{and_parts, ltb-true}
 use Rattle.kms_model.specs.declared.flags.TheConstants.{ALLOW_MODESET, NONBLOCK, PAGE_FLIP_EVENT}
@@ -20,9 +21,12 @@ use Rattle.kms_model.specs.Device.Objects.{count_of, exists, object_id}
 use Rattle.kms_model.specs.Device.Properties.{keeps_limits}
 use Rattle.kms_model.specs.Device.Sound.{IsDevice, IsLawful}
 use Rattle.kms_model.specs.Legacy.LegacyCalls.{call_may_stand}
-use Rattle.kms_model.specs.Legacy.Screen.{Screen, at_plane, flipped_to, lit_in, moved_to, placed_in_mode, placed_whole, screen_after, with_changed, with_lit, with_placed}
+use Rattle.kms_model.specs.Legacy.Screen.{Screen, at_plane, flipped_to, lit_in, moved_to, placed_in_mode, placed_whole, screen_after}
+use Rattle.kms_model.specs.Legacy.Screen.{with_changed, with_lit, with_placed}
 use Rattle.kms_model.specs.Legacy.Translated.{fb_of_call, mode_of_call}
-use Rattle.kms_model.specs.Legacy.Translation.{Present, asks, call_request, changes_format, conns_now, crtc_on, cursor, fb_size, flip_request, in_fixed, mode_size, others, plane_on, present_in, primary, sized_at, special_plane, with_plane}
+use Rattle.kms_model.specs.Legacy.Translation.{Present, asks, call_request, changes_format, conns_now, crtc_on, cursor, fb_size}
+use Rattle.kms_model.specs.Legacy.Translation.{flip_request, in_fixed, mode_size, others, plane_on, present_in, primary, sized_at}
+use Rattle.kms_model.specs.Legacy.Translation.{special_plane, with_plane}
 use Rattle.kms_model.specs.Request.Flags.{is_test}
 use Rattle.kms_model.specs.Request.Lookups.{look_up}
 use Rattle.kms_model.specs.Request.Verdict.{verdict}

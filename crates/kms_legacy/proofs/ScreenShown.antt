@@ -1,5 +1,6 @@
 -- A device whose values are those of a screen shows it.
-use Rattle.std.proofs.Common.{◌≡◌, ℕ, zero, suc, ◌+◌, ◌<◌, ◌≤◌, Bool, true, false, inl, inr, List, [], ◌∷◌, cond, length, map, Option, Some, None, pos, refl, sym, ap, ◌∙◌, arith}
+use Rattle.std.proofs.Common.{◌≡◌, ℕ, zero, suc, ◌+◌, ◌<◌, ◌≤◌, Bool, true, false, inl, inr, List, [], ◌∷◌, cond, length, map, Option, Some}
+use Rattle.std.proofs.Common.{None, pos, refl, sym, ap, ◌∙◌, arith}
 use Rattle.std.specs.Prelude.{◌==◌, filter, nat_lt, option_map}
 use Rattle.std.specs.List.{filter_map, range_with_len}
 use Rattle.std.proofs.lemmas.Bool.{eq-eqb}
@@ -16,9 +17,11 @@ use Rattle.kms_model.specs.Device.Sound.{IsSound, empty_request}
 use Rattle.kms_model.specs.Device.States.{connector_on, crtc_at, gamma_at, mode_at, plane_at}
 use Rattle.kms_model.specs.Device.World.{value}
 use Rattle.kms_model.specs.Frames.Pictures.{layer_of, layers_of, picture, seen_on}
-use Rattle.kms_model.specs.Legacy.Screen.{Lit, Placed, Screen, ShowsScreen, lit_at, lit_picture, placed_at, placed_layer, screen_layer, screen_picture}
+use Rattle.kms_model.specs.Legacy.Screen.{Lit, Placed, Screen, ShowsScreen, lit_at, lit_picture, placed_at, placed_layer, screen_layer}
+use Rattle.kms_model.specs.Legacy.Screen.{screen_picture}
 use Rattle.kms_model.specs.Firsts.{first_some}
-use Rattle.kms_model.specs.Request.Checks.{clone_refusal_at, conn_refusal_at, conns_on, crtc_refusal_at, event_refusal, late_refusal, plane_refusal_at, with_ids}
+use Rattle.kms_model.specs.Request.Checks.{clone_refusal_at, conn_refusal_at, conns_on, crtc_refusal_at, event_refusal, late_refusal}
+use Rattle.kms_model.specs.Request.Checks.{plane_refusal_at, with_ids}
 use Rattle.kms_model.specs.Script.Words.{◌>>=◌}
 use Rattle.kms_model.proofs.Items.{IsIn, first_some-at, ids-has, number_if-none, or_else-none}
 use Rattle.kms_model.proofs.SoundKept.{late-empty}

@@ -8,7 +8,9 @@ use Rattle.kms_model.specs.declared.legacy.LegacyScript.{LegacyScript}
 use Rattle.kms_model.specs.declared.scripts.Why.{Why}
 use Rattle.kms_model.specs.declared.scripts.Why.TheVariants.{Bytes, Cut, Label, Limit}
 use Rattle.kms_model.specs.Legacy.LegacyCalls.{legacy_command_read}
-use Rattle.kms_model.specs.Legacy.LegacyLines.{LegacyDraft, LegacyLined, SpellsLegacy, blank_legacy_draft, followed_by, legacy_command_line, legacy_drafted, legacy_input, legacy_line, legacy_line_after, legacy_lines_after, legacy_script_in, legacy_sized, or_legacy_fault, spelt_legacy_line, spelt_legacy_lines}
+use Rattle.kms_model.specs.Legacy.LegacyLines.{LegacyDraft, LegacyLined, SpellsLegacy, blank_legacy_draft, followed_by, legacy_command_line}
+use Rattle.kms_model.specs.Legacy.LegacyLines.{legacy_drafted, legacy_input, legacy_line, legacy_line_after, legacy_lines_after}
+use Rattle.kms_model.specs.Legacy.LegacyLines.{legacy_script_in, legacy_sized, or_legacy_fault, spelt_legacy_line, spelt_legacy_lines}
 use Rattle.kms_model.specs.Script.CommandLines.{or_form, unless}
 use Rattle.kms_model.specs.Script.Grammar.{is_printable}
 use Rattle.kms_model.specs.Script.InputLines.{Fault, Row, input_limit, rows_of}

@@ -1,5 +1,6 @@
 -- What the translation of a call answers, and the connectors that a call takes off a CRTC.
-use Rattle.std.specs.Prelude.{◌≡◌, ◌<◌, ◌≤◌, ◌^◌, ℕ, Bool, true, ◌&&◌, ◌==◌, not, List, length, IfErr, Option, Some, None, Result, Ok, Err, ⊤}
+use Rattle.std.specs.Prelude.{◌≡◌, ◌<◌, ◌≤◌, ◌^◌, ℕ, Bool, true, ◌&&◌, ◌==◌, not, List, length, IfErr, Option, Some, None, Result, Ok, Err}
+use Rattle.std.specs.Prelude.{⊤}
 use Rattle.kms_model.specs.declared.legacy.LegacyCall.{LegacyCall}
 use Rattle.kms_model.specs.declared.legacy.LegacyCall.TheVariants as call
 use Rattle.kms_model.specs.declared.objects.Kind.TheVariants.{Crtc}

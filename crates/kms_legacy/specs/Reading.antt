@@ -1,5 +1,6 @@
 -- What the reader has read so far of a script with older calls, as the definitions see it.
-use Rattle.std.specs.Prelude.{◌≡◌, ◌≤◌, ◌+◌, ◌*◌, ◌||◌, nat_le, nat_lt, ℕ, Bool, true, false, List, [], ◌∷◌, drop, length, Result, Ok, Err, ⊤}
+use Rattle.std.specs.Prelude.{◌≡◌, ◌≤◌, ◌+◌, ◌*◌, ◌||◌, nat_le, nat_lt, ℕ, Bool, true, false, List, [], ◌∷◌, drop, length, Result, Ok, Err}
+use Rattle.std.specs.Prelude.{⊤}
 use Rattle.kms_model.specs.declared.legacy.LegacyScript.{LegacyScript}
 use Rattle.kms_model.specs.declared.objects.Topology.{Topology}
 use Rattle.kms_model.specs.Legacy.LegacyLines.{LegacyDraft, LegacyLined, blank_legacy_draft, legacy_lines_after}

@@ -18,14 +18,22 @@ pub record ComesFrom (values : List Setting) (prop : ℕ) (number : ℤ) : Type 
   pub has_number : from.number ≡ number
 
 comes_further : (s : Setting) (ss : List Setting) (prop : ℕ) (number : ℤ) → ComesFrom ss prop number → ComesFrom (s ∷ ss) prop number
-comes_further s ss prop number from = record { from = from.from; is_in = inr from.is_in; of_prop = from.of_prop; has_number = from.has_number }
+comes_further s ss prop number from = record {
+  from = from.from;
+  is_in = inr from.is_in;
+  of_prop = from.of_prop;
+  has_number =
+      from.has_number;
+}
 
-comes_or_further : (s : Setting) (ss : List Setting) (prop : ℕ) (number : ℤ) → (number ≡ pos 0) ⊎ ComesFrom ss prop number → (number ≡ pos 0) ⊎ ComesFrom (s ∷ ss) prop number
+comes_or_further : (s : Setting) (ss : List Setting) (prop : ℕ) (number : ℤ) → (number ≡ pos 0) ⊎ ComesFrom ss prop number
+    → (number ≡ pos 0) ⊎ ComesFrom (s ∷ ss) prop number
 comes_or_further s ss prop number (inl nowhere) = inl nowhere
 comes_or_further s ss prop number (inr from) = inr (comes_further s ss prop number from)
 
 -- a value is 0, or that of a setting of the property
-pub value-cases : (values : List Setting) (object prop : ℕ) → (value values object prop ≡ pos 0) ⊎ ComesFrom values prop (value values object prop)
+pub value-cases : (values : List Setting) (object prop : ℕ) → (value values object prop ≡ pos 0)
+    ⊎ ComesFrom values prop (value values object prop)
 value-cases [] object prop = inl refl
 value-cases (s ∷ ss) object prop =
     elim (cases_Bool (is_of object prop s)) [
@@ -35,12 +43,14 @@ value-cases (s ∷ ss) object prop =
         of_prop = eqb-true s.prop prop (and_parts (s.object == object) (s.prop == prop) is).1;
         has_number = sym (cond-true (is_of object prop s) s.number (value ss object prop) is);
       })
-      | inr other ↦ subst (λ n. (n ≡ pos 0) ⊎ ComesFrom (s ∷ ss) prop n) (sym (cond-false (is_of object prop s) s.number (value ss object prop) other))
+      | inr other ↦ subst (λ n. (n ≡ pos 0) ⊎ ComesFrom (s ∷ ss) prop n)
+          (sym (cond-false (is_of object prop s) s.number (value ss object prop) other))
           (comes_or_further s ss prop (value ss object prop) (value-cases ss object prop))
     ]
 
 value-put_here : (s : Setting) (ss : List Setting) (o q : ℕ) (n : ℤ) (object prop : ℕ) → (s.object ≡ o) → (s.prop ≡ q)
-    → (if (o == object) && (q == prop) then n else value ss object prop) ≡ (if (o == object) && (q == prop) then n else (if is_of object prop s then s.number else value ss object prop))
+    → (if (o == object) && (q == prop) then n else value ss object prop)
+    ≡ (if (o == object) && (q == prop) then n else (if is_of object prop s then s.number else value ss object prop))
 value-put_here s ss o q n object prop same_object same_prop =
     let e : is_of object prop s ≡ ((o == object) && (q == prop)) = rw (same_object, same_prop) refl in
     elim (cases_Bool ((o == object) && (q == prop))) [
@@ -50,7 +60,8 @@ value-put_here s ss o q n object prop same_object same_prop =
 
 value-put_further : (s : Setting) (ss : List Setting) (o q : ℕ) (n : ℤ) (object prop : ℕ) → is_of o q s ≡ false
     → value (put ss o q n) object prop ≡ (if (o == object) && (q == prop) then n else value ss object prop)
-    → (if is_of object prop s then s.number else value (put ss o q n) object prop) ≡ (if (o == object) && (q == prop) then n else (if is_of object prop s then s.number else value ss object prop))
+    → (if is_of object prop s then s.number else value (put ss o q n) object prop)
+    ≡ (if (o == object) && (q == prop) then n else (if is_of object prop s then s.number else value ss object prop))
 value-put_further s ss o q n object prop other rest =
     elim (cases_Bool ((o == object) && (q == prop))) [
       | inl is ↦ (let both = and_parts (o == object) (q == prop) is in
@@ -60,7 +71,8 @@ value-put_further s ss o q n object prop other rest =
     ]
 
 -- a property that is put has the number, and others stay
-pub value-put : (values : List Setting) (o q : ℕ) (n : ℤ) (object prop : ℕ) → value (put values o q n) object prop ≡ (if (o == object) && (q == prop) then n else value values object prop)
+pub value-put : (values : List Setting) (o q : ℕ) (n : ℤ) (object prop : ℕ) → value (put values o q n) object prop
+    ≡ (if (o == object) && (q == prop) then n else value values object prop)
 value-put [] o q n object prop = refl
 value-put (s ∷ ss) o q n object prop =
     elim (cases_Bool (is_of o q s)) [
@@ -81,9 +93,12 @@ pub value-assign : (things : List Thing) (values : List Setting) (a : Assign) (o
     → value (assign things values a) object prop ≡ (if targets a object prop then number_of things a.value else value values object prop)
 value-assign things values a object prop kept =
     elim (cases_Bool (is_kept (prop_of a.prop))) [
-      | inl keeps ↦ ap (λ vs. value vs object prop) (cond-true (is_kept (prop_of a.prop)) (put values (object_of a) (prop_of a.prop) (number_of things a.value)) values keeps) ∙ value-put values (object_of a) (prop_of a.prop) (number_of things a.value) object prop
+      | inl keeps ↦ ap (λ vs. value vs object prop)
+          (cond-true (is_kept (prop_of a.prop)) (put values (object_of a) (prop_of a.prop) (number_of things a.value)) values keeps) ∙
+          value-put values (object_of a) (prop_of a.prop) (number_of things a.value) object prop
       | inr loses ↦ (let apart : targets a object prop ≡ false = not_of_kept a object prop kept loses in
-          ap (λ vs. value vs object prop) (cond-false (is_kept (prop_of a.prop)) (put values (object_of a) (prop_of a.prop) (number_of things a.value)) values loses)
+          ap (λ vs. value vs object prop) (cond-false (is_kept (prop_of a.prop))
+          (put values (object_of a) (prop_of a.prop) (number_of things a.value)) values loses)
           ∙ sym (cond-false (targets a object prop) (number_of things a.value) (value values object prop) apart))
     ]
   where
@@ -96,17 +111,22 @@ value-assign things values a object prop kept =
         ]
 
 -- an assignment to another object
-value-assign_other : (things : List Thing) (values : List Setting) (a : Assign) (object prop : ℕ) → (object_of a == object) ≡ false → value (assign things values a) object prop ≡ value values object prop
+value-assign_other : (things : List Thing) (values : List Setting) (a : Assign) (object prop : ℕ) → (object_of a == object) ≡ false
+    → value (assign things values a) object prop ≡ value values object prop
 value-assign_other things values a object prop other =
     let apart : targets a object prop ≡ false = and_left (object_of a == object) (prop_of a.prop == prop) other in
     elim (cases_Bool (is_kept (prop_of a.prop))) [
-      | inl keeps ↦ ap (λ vs. value vs object prop) (cond-true (is_kept (prop_of a.prop)) (put values (object_of a) (prop_of a.prop) (number_of things a.value)) values keeps)
-          ∙ value-put values (object_of a) (prop_of a.prop) (number_of things a.value) object prop ∙ cond-false (targets a object prop) (number_of things a.value) (value values object prop) apart
-      | inr loses ↦ ap (λ vs. value vs object prop) (cond-false (is_kept (prop_of a.prop)) (put values (object_of a) (prop_of a.prop) (number_of things a.value)) values loses)
+      | inl keeps ↦ ap (λ vs. value vs object prop)
+          (cond-true (is_kept (prop_of a.prop)) (put values (object_of a) (prop_of a.prop) (number_of things a.value)) values keeps)
+          ∙ value-put values (object_of a) (prop_of a.prop) (number_of things a.value) object prop ∙ cond-false (targets a object prop)
+          (number_of things a.value) (value values object prop) apart
+      | inr loses ↦ ap (λ vs. value vs object prop)
+          (cond-false (is_kept (prop_of a.prop)) (put values (object_of a) (prop_of a.prop) (number_of things a.value)) values loses)
     ]
 
 -- an object that no assignment sets keeps its values
-pub value-apply_unset : (things : List Thing) (values : List Setting) (assigns : List Assign) (object prop : ℕ) → sets assigns object ≡ false → value (apply things values assigns) object prop ≡ value values object prop
+pub value-apply_unset : (things : List Thing) (values : List Setting) (assigns : List Assign) (object prop : ℕ) → sets assigns object
+    ≡ false → value (apply things values assigns) object prop ≡ value values object prop
 value-apply_unset things values [] object prop unset = refl
 value-apply_unset things values (a ∷ assigns) object prop unset =
     let parts = or_parts (object_of a == object) (sets assigns object) unset in

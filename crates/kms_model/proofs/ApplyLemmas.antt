@@ -17,11 +17,13 @@ number_or things (Some v) number = number_of things v
 number_or things None number = number
 
 -- the number that a value stands for where a test holds, or else another
-number_or-if : (things : List Thing) (b : Bool) (v : Value) (number : ℤ) → (if b then number_of things v else number) ≡ number_or things (value_if b v) number
+number_or-if : (things : List Thing) (b : Bool) (v : Value) (number : ℤ) → (if b then number_of things v else number)
+    ≡ number_or things (value_if b v) number
 number_or-if things true v number = refl
 number_or-if things false v number = refl
 
-number_or-later : (things : List Thing) (later here : Option Value) (before z : ℤ) → z ≡ number_or things here before → number_or things later z ≡ number_or things (or_else later here) before
+number_or-later : (things : List Thing) (later here : Option Value) (before z : ℤ) → z ≡ number_or things here before
+    → number_or things later z ≡ number_or things (or_else later here) before
 number_or-later things None here before z is = is
 number_or-later things (Some v) here before z is = refl
 
@@ -31,4 +33,6 @@ pub value-apply : (things : List Thing) (values : List Setting) (assigns : List 
 value-apply things values [] object prop kept = refl
 value-apply things values (a ∷ assigns) object prop kept =
     value-apply things (assign things values a) assigns object prop kept
-    ∙ number_or-later things (last_value assigns object prop) (value_if ((object_of a == object) && (prop_of a.prop == prop)) a.value) (value values object prop) (value (assign things values a) object prop) (value-assign things values a object prop kept ∙ number_or-if things (targets a object prop) a.value (value values object prop))
+    ∙ number_or-later things (last_value assigns object prop) (value_if ((object_of a == object) && (prop_of a.prop == prop)) a.value)
+    (value values object prop) (value (assign things values a) object prop)
+    (value-assign things values a object prop kept ∙ number_or-if things (targets a object prop) a.value (value values object prop))

@@ -13,25 +13,30 @@ use Rattle.kms_model.specs.Request.Touched.{touches}
 
 pub commit_old : (t : Topology) (c : Commit) (cs : List Commit) (k : ℕ) → k < length cs → commit_at t (c ∷ cs) k ≡ commit_at t cs k
 unfolding commit_at
-commit_old t c cs k within = (let apart : (length cs == k) ≡ false = ne_eqb (length cs) k (λ e. absurd (omega (arith, e, within))) in rw apart refl)
+commit_old t c cs k within = (let apart : (length cs == k) ≡ false = ne_eqb (length cs) k (λ e. absurd (omega (arith, e, within)))
+    in rw apart refl)
 
 pub commit_new : (t : Topology) (c : Commit) (cs : List Commit) → commit_at t (c ∷ cs) (length cs) ≡ c
 unfolding commit_at
 commit_new t c cs = rw (eq-eqb (length cs) (length cs) refl) refl
 
-pub touches_old : (t : Topology) (c : Commit) (cs : List Commit) (k object : ℕ) → k < length cs → commit_touches t (c ∷ cs) k object ≡ commit_touches t cs k object
+pub touches_old : (t : Topology) (c : Commit) (cs : List Commit) (k object : ℕ) → k < length cs → commit_touches t (c ∷ cs) k object
+    ≡ commit_touches t cs k object
 unfolding commit_touches
 touches_old t c cs k object within = rw (commit_old t c cs k within) refl
 
-pub touches_new : (t : Topology) (c : Commit) (cs : List Commit) (object : ℕ) → commit_touches t (c ∷ cs) (length cs) object ≡ touches t c.world c.request object
+pub touches_new : (t : Topology) (c : Commit) (cs : List Commit) (object : ℕ) → commit_touches t (c ∷ cs) (length cs) object
+    ≡ touches t c.world c.request object
 unfolding commit_touches
 touches_new t c cs object = rw (commit_new t c cs) refl
 
-pub concerns_old : (t : Topology) (c : Commit) (cs : List Commit) (k object crtc : ℕ) → k < length cs → commit_concerns t (c ∷ cs) k object crtc ≡ commit_concerns t cs k object crtc
+pub concerns_old : (t : Topology) (c : Commit) (cs : List Commit) (k object crtc : ℕ) → k < length cs
+    → commit_concerns t (c ∷ cs) k object crtc ≡ commit_concerns t cs k object crtc
 unfolding commit_concerns
 concerns_old t c cs k object crtc within = rw (commit_old t c cs k within) refl
 
-pub concerns_new : (t : Topology) (c : Commit) (cs : List Commit) (object crtc : ℕ) → commit_concerns t (c ∷ cs) (length cs) object crtc ≡ is_on_before_or_after (kind_of object) c object crtc
+pub concerns_new : (t : Topology) (c : Commit) (cs : List Commit) (object crtc : ℕ) → commit_concerns t (c ∷ cs) (length cs) object crtc
+    ≡ is_on_before_or_after (kind_of object) c object crtc
 unfolding commit_concerns
 concerns_new t c cs object crtc = rw (commit_new t c cs) refl
 

@@ -47,7 +47,8 @@ all_in {A} P xs x all member = go xs (recursion_from_All P xs all) member
     go (y ∷ ys) rest (inr later) = go ys rest.1 later
 
 -- the CRTC that a value of CRTC_ID is
-number_is : (t : Topology) (f : ℕ → Look) (things : List worlds.Thing) (v : Value) → is_in_range t f CRTC_ID CrtcName v ≡ true → crtc_value v ≡ natural (number_of things v)
+number_is : (t : Topology) (f : ℕ → Look) (things : List worlds.Thing) (v : Value) → is_in_range t f CRTC_ID CrtcName v ≡ true
+    → crtc_value v ≡ natural (number_of things v)
 number_is t f things (value.Num n) within = sym (ap natural ((Decides-int_eq n (pos 0)).0 within))
 number_is t f things (value.Named label) within = absurd (cc)
 number_is t f things (value.New label) within = absurd (cc)
@@ -60,7 +61,8 @@ crtc_of t f (value.New label) within = absurd (cc)
 crtc_of t f (value.Crtc index) within = IsCrtc index (ltb-true index t.crtcs within) refl
 
 -- the value of an allowed assignment of CRTC_ID
-pub crtc_in_range : (t : Topology) (f : ℕ → Look) (a : Assign) → IsAllowed t f a → prop_of a.prop ≡ CRTC_ID → is_in_range t f CRTC_ID CrtcName a.value ≡ true
+pub crtc_in_range : (t : Topology) (f : ℕ → Look) (a : Assign) → IsAllowed t f a → prop_of a.prop ≡ CRTC_ID
+    → is_in_range t f CRTC_ID CrtcName a.value ≡ true
 crtc_in_range t f a allowed is =
     let P : ℕ → Type 0 = λ id. is_in_range_of t f a.value (property id) ≡ true in
     subst P is allowed.value
@@ -68,8 +70,10 @@ crtc_in_range t f a allowed is =
 -- an object with a CRTC_ID is a plane or a connector
 pub routed : (t : Topology) (k : Kind) (prop : PropRef) → has_property t k prop ≡ true → prop_of prop ≡ CRTC_ID → is_routed k ≡ true
 routed t k (Unknown name) has is = absurd (cc)
-routed t Crtc (Known id) has is = (let wrong : is_of_kind Crtc (property CRTC_ID) ≡ true = subst (λ i. is_of_kind Crtc (property i) ≡ true) is (of_kind-in t.profile id Crtc has) in absurd (cc))
-routed t Enc (Known id) has is = (let wrong : is_of_kind Enc (property CRTC_ID) ≡ true = subst (λ i. is_of_kind Enc (property i) ≡ true) is (of_kind-in t.profile id Enc has) in absurd (cc))
+routed t Crtc (Known id) has is = (let wrong : is_of_kind Crtc (property CRTC_ID)
+    ≡ true = subst (λ i. is_of_kind Crtc (property i) ≡ true) is (of_kind-in t.profile id Crtc has) in absurd (cc))
+routed t Enc (Known id) has is = (let wrong : is_of_kind Enc (property CRTC_ID)
+    ≡ true = subst (λ i. is_of_kind Enc (property i) ≡ true) is (of_kind-in t.profile id Enc has) in absurd (cc))
 routed t Plane (Known id) has is = refl
 routed t Conn (Known id) has is = refl
 
@@ -78,8 +82,10 @@ pub record CrtcAfter (t : Topology) (f : ℕ → Look) (old new : List Setting) 
   pub by : ((last_value assigns object CRTC_ID ≡ None) × (crtc_at new object ≡ crtc_at old object))
       ⊎ ((v : Value) × (last_value assigns object CRTC_ID ≡ Some v) × (crtc_at new object ≡ crtc_value v) × IsCrtcOrNone t (crtc_value v))
 
-crtc_after_of : (t : Topology) (f : ℕ → Look) (things : List worlds.Thing) (old new : List Setting) (assigns : List Assign) (object : ℕ) (last : Option Value) → All (IsAllowed t f) assigns
-    → last_value assigns object CRTC_ID ≡ last → value_of new object CRTC_ID ≡ number_or things last (value_of old object CRTC_ID) → CrtcAfter t f old new assigns object
+crtc_after_of : (t : Topology) (f : ℕ → Look) (things : List worlds.Thing) (old new : List Setting) (assigns : List Assign) (object : ℕ)
+    (last : Option Value) → All (IsAllowed t f) assigns
+    → last_value assigns object CRTC_ID ≡ last → value_of new object CRTC_ID ≡ number_or things last (value_of old object CRTC_ID)
+    → CrtcAfter t f old new assigns object
 crtc_after_of t f things old new assigns object None allowed is number = record { by = inl (is, ap natural number) }
 crtc_after_of t f things old new assigns object (Some v) allowed is number =
     let by = set_by assigns object CRTC_ID v is in
@@ -87,22 +93,27 @@ crtc_after_of t f things old new assigns object (Some v) allowed is number =
     let within : is_in_range t f CRTC_ID CrtcName v ≡ true = subst (λ u. is_in_range t f CRTC_ID CrtcName u ≡ true) by.value_is range in
     record { by = inr (v, is, ap natural number ∙ sym (number_is t f things v within), crtc_of t f v within) }
 
-pub crtc_after : (t : Topology) (f : ℕ → Look) (things : List worlds.Thing) (old : List Setting) (assigns : List Assign) (object : ℕ) → All (IsAllowed t f) assigns → CrtcAfter t f old (apply things old assigns) assigns object
+pub crtc_after : (t : Topology) (f : ℕ → Look) (things : List worlds.Thing) (old : List Setting) (assigns : List Assign) (object : ℕ)
+    → All (IsAllowed t f) assigns → CrtcAfter t f old (apply things old assigns) assigns object
 crtc_after t f things old assigns object allowed =
-    crtc_after_of t f things old (apply things old assigns) assigns object (last_value assigns object CRTC_ID) allowed refl (value-apply things old assigns object CRTC_ID refl)
+    crtc_after_of t f things old (apply things old assigns) assigns object (last_value assigns object CRTC_ID) allowed refl
+    (value-apply things old assigns object CRTC_ID refl)
 
 -- the CRTC of a plane or a connector before a request, and after it, is one of the device's or none
 pub crtc_before_held : (t : Topology) (things : List worlds.Thing) (values : List Setting) (k : Kind) (index : ℕ)
     → ArePlainHeld t things values → is_routed k ≡ true → exists t k index ≡ true → IsCrtcOrNone t (crtc_at values (object_id k index))
 crtc_before_held t things values Crtc index held routes there = absurd (cc)
-crtc_before_held t things values Plane index held routes there = plane_crtc-held t things values (object_id Plane index) held (ids-has t Plane index (ltb-true index (length t.planes) there))
-crtc_before_held t things values Conn index held routes there = conn_crtc-held t things values (object_id Conn index) held (ids-has t Conn index (ltb-true index (length t.conns) there))
+crtc_before_held t things values Plane index held routes there = plane_crtc-held t things values (object_id Plane index) held
+    (ids-has t Plane index (ltb-true index (length t.planes) there))
+crtc_before_held t things values Conn index held routes there = conn_crtc-held t things values (object_id Conn index) held
+    (ids-has t Conn index (ltb-true index (length t.conns) there))
 crtc_before_held t things values Enc index held routes there = absurd (cc)
 
 pub crtc_after_held : (t : Topology) (f : ℕ → Look) (things : List worlds.Thing) (old : List Setting) (assigns : List Assign) (k : Kind)
     (index : ℕ) → ArePlainHeld t things old → All (IsAllowed t f) assigns → is_routed k ≡ true → exists t k index ≡ true
     → IsCrtcOrNone t (crtc_at (apply things old assigns) (object_id k index))
-crtc_after_held t f things old assigns k index held allowed routes there = elim ((crtc_after t f things old assigns (object_id k index) allowed).by) [
-  | inl kept ↦ subst (IsCrtcOrNone t) (sym kept.1) (crtc_before_held t things old k index held routes there)
-  | inr set ↦ subst (IsCrtcOrNone t) (sym set.2) set.3
-]
+crtc_after_held t f things old assigns k index held allowed routes there =
+    elim ((crtc_after t f things old assigns (object_id k index) allowed).by) [
+      | inl kept ↦ subst (IsCrtcOrNone t) (sym kept.1) (crtc_before_held t things old k index held routes there)
+      | inr set ↦ subst (IsCrtcOrNone t) (sym set.2) set.3
+    ]

@@ -1,5 +1,6 @@
 -- Facts of booleans, options, lists and integers that several crates use.
-use Rattle.std.proofs.Common.{◌≡◌, ℕ, zero, suc, ◌+◌, List, [], ◌∷◌, map, Bool, true, false, not, ◌||◌, Option, Some, None, ◌⊎◌, inl, inr, refl, sym, subst, cond, replicate, ℤ, pos, negsuc, ◌≤ℤ◌, SFits, rules, arith}
+use Rattle.std.proofs.Common.{◌≡◌, ℕ, zero, suc, ◌+◌, List, [], ◌∷◌, map, Bool, true, false, not, ◌||◌, Option, Some, None, ◌⊎◌, inl, inr}
+use Rattle.std.proofs.Common.{refl, sym, subst, cond, replicate, ℤ, pos, negsuc, ◌≤ℤ◌, SFits, rules, arith}
 use Rattle.std.specs.Prelude.{◌&&◌, ◌==◌, All, is_none, is_some, slice_get}
 use Rattle.std.specs.Int.{w32, cast_signed, cast_unsigned}
 use Rattle.std.specs.List.{AllByRecursion, list_all, range_with_len}
@@ -59,7 +60,8 @@ pub cond_holds : {X : Type 0} (P : X → Type 0) (b : Bool) (x y : X) → P x �
 cond_holds P true x y first second = first
 cond_holds P false x y first second = second
 
-pub cond_mapped : {A B : Type 0} (f : A → B) (b : Bool) (x : A) (o : Option A) → cond b (Some (f x)) (option_map f o) ≡ option_map f (cond b (Some x) o)
+pub cond_mapped : {A B : Type 0} (f : A → B) (b : Bool) (x : A) (o : Option A) → cond b (Some (f x)) (option_map f o)
+    ≡ option_map f (cond b (Some x) o)
 cond_mapped f true x o = refl
 cond_mapped f false x o = refl
 
@@ -87,10 +89,12 @@ all_map P f (x ∷ xs) all = (all.0, all_map P f xs all.1)
 
 pub list_all-from : (f : ℕ → Bool) (start n : ℕ) → ((i : ℕ) → f i ≡ true) → list_all f (range_with_len start n) ≡ true
 list_all-from f start zero each = refl
-list_all-from f start (suc n) each = and_from (f start) (list_all f (range_with_len (start + 1) n)) (each start) (list_all-from f (start + 1) n each)
+list_all-from f start (suc n) each = and_from (f start) (list_all f (range_with_len (start + 1) n)) (each start)
+    (list_all-from f (start + 1) n each)
 
 pub number-in : (objects : List ℕ) (object : ℕ) → has_number objects object ≡ true → IsIn object objects
-number-in objects object has = (let at = list_any-some (λ n. n == object) objects has in subst (λ o. IsIn o objects) (eqb-true at.item object at.holds) at.is_in)
+number-in objects object has = (let at = list_any-some (λ n. n == object) objects has
+    in subst (λ o. IsIn o objects) (eqb-true at.item object at.holds) at.is_in)
 
 pub nothing_there : {S : Type 0} (n i : ℕ) (both : Both S) → slice_get (replicate n None) i ≡ Some (Some both) → ⊥
 nothing_there zero i both is = absurd cc

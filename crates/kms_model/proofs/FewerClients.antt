@@ -1,6 +1,7 @@
 -- Where a script is read of clients with fewer commands, each client has as few, and so there is room for more; with 4096 it is the
 -- grammar itself.
-use Rattle.std.proofs.Common.{◌≡◌, ℕ, ◌+◌, ◌≤◌, Bool, true, false, cond, List, [], ◌∷◌, ◌++◌, length, Option, Some, None, Result, Ok, Err, ◌⊎◌, inl, inr, ◌<◌, ◌||◌, refl, sym, ap, subst, arith, ltb-false, leb-false, length-append, ⊎_elim}
+use Rattle.std.proofs.Common.{◌≡◌, ℕ, ◌+◌, ◌≤◌, Bool, true, false, cond, List, [], ◌∷◌, ◌++◌, length, Option, Some, None, Result, Ok, Err}
+use Rattle.std.proofs.Common.{◌⊎◌, inl, inr, ◌<◌, ◌||◌, refl, sym, ap, subst, arith, ltb-false, leb-false, length-append, ⊎_elim}
 use Rattle.std.specs.Prelude.{nat_le, nat_lt, ◌==◌, codes, if◌then◌else◌}
 use Rattle.std.specs.List.{AllByRecursion}
 use Rattle.std.specs.Str.{bytes_eq}
@@ -13,7 +14,10 @@ use Rattle.kms_model.specs.Script.CommandLines.{command_read, is_over, or_form, 
 use Rattle.kms_model.specs.Script.FewerCommands.{input_within, lines_within, within}
 use Rattle.kms_model.specs.Script.InputLines.{Fault, Row, input_limit, rows_of}
 use Rattle.kms_model.specs.Script.Longer.{HasRoomForTwo, commands_of_last, most_before_two}
-use Rattle.kms_model.specs.Script.WholeInput.{input, Draft, Lined, blank_draft, client_line, clients_in, clients_of, command_line, conn_at, conn_line, crtcs_at, crtcs_line, drafted, first_line, is_nil, later_line, line_after, lines_after, missing_line, or_fault, plane_fields, plane_line, script_in, script_limit, script_line, sized, version_read}
+use Rattle.kms_model.specs.Script.WholeInput.{input, Draft, Lined, blank_draft, client_line, clients_in, clients_of, command_line, conn_at}
+use Rattle.kms_model.specs.Script.WholeInput.{conn_line, crtcs_at, crtcs_line, drafted, first_line, is_nil, later_line, line_after}
+use Rattle.kms_model.specs.Script.WholeInput.{lines_after, missing_line, or_fault, plane_fields, plane_line, script_in, script_limit}
+use Rattle.kms_model.specs.Script.WholeInput.{script_line, sized, version_read}
 use Rattle.kms_model.specs.Script.Words.{end_at, from, until}
 
 -- After a line the clients before the present one are those that there were, or with them the one that was the present one; and

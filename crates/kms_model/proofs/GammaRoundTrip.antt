@@ -1,5 +1,6 @@
 -- A gamma table, written as words and read; and that a blob holds a table of bytes.
-use Rattle.std.proofs.Common.{◌≡◌, ℕ, zero, suc, ◌+◌, ◌-◌, ◌*◌, ◌/◌, ◌<◌, List, ◌++◌, length, get_or, take, drop, map, Bool, true, false, Some, None, ◌==◌, inl, inr, refl, sym, ap, ◌∙◌, subst, arith}
+use Rattle.std.proofs.Common.{◌≡◌, ℕ, zero, suc, ◌+◌, ◌-◌, ◌*◌, ◌/◌, ◌<◌, List, ◌++◌, length, get_or, take, drop, map, Bool, true, false}
+use Rattle.std.proofs.Common.{Some, None, ◌==◌, inl, inr, refl, sym, ap, ◌∙◌, subst, arith}
 use Rattle.std.specs.Prelude.{slice_range, if◌then◌else◌}
 use Rattle.std.specs.List.{range_with_len}
 use Rattle.std.proofs.lemmas.Bool.{cases_lt}
@@ -32,9 +33,11 @@ table red green blue = record { red = red; green = green; blue = blue }
 pub gamma_with-gamma_bytes : (g : Gamma) → IsGammaTable g → gamma_with (gamma_bytes g) ≡ g
 gamma_with-gamma_bytes g is =
     let reds : slice_range (gamma_bytes g) 0 256 ≡ g.red = front g.red (g.green ++ g.blue) 256 is.red in
-    let greens : slice_range (gamma_bytes g) 256 512 ≡ g.green = ap (take 256) (back g.red (g.green ++ g.blue) 256 0 256 is.red refl) ∙ front g.green g.blue 256 is.green in
+    let greens : slice_range (gamma_bytes g) 256 512
+    ≡ g.green = ap (take 256) (back g.red (g.green ++ g.blue) 256 0 256 is.red refl) ∙ front g.green g.blue 256 is.green in
     let blues : slice_range (gamma_bytes g) 512 768 ≡ g.blue =
-    ap (take 256) (back g.red (g.green ++ g.blue) 256 256 512 is.red refl ∙ back g.green g.blue 256 0 256 is.green refl) ∙ take_all 256 g.blue (omega (arith, is.blue)) in
+    ap (take 256) (back g.red (g.green ++ g.blue) 256 256 512 is.red refl ∙ back g.green g.blue 256 0 256 is.green refl) ∙ take_all 256
+    g.blue (omega (arith, is.blue)) in
     (λ i. table (reds i) (greens i) (blues i))
 
 -- and so is the table that its words hold
@@ -63,7 +66,8 @@ channel_long : (bytes : List ℕ) (channel : ℕ) → length (channel_values byt
 channel_long bytes channel = length-map-range_with_len (λ value. two_at bytes (8 * value + 2 * channel) / 256) 0 256
 
 channel_small : (bytes : List ℕ) (channel : ℕ) → AreBytes bytes → AreBytes (channel_values bytes channel)
-channel_small bytes channel small = each_small (λ value. two_at bytes (8 * value + 2 * channel) / 256) (λ value. upper_small bytes (8 * value + 2 * channel) small) 0 256
+channel_small bytes channel small = each_small (λ value. two_at bytes (8 * value + 2 * channel) / 256)
+    (λ value. upper_small bytes (8 * value + 2 * channel) small) 0 256
 
 -- the table that bytes hold has a byte for each value
 pub held-table : (bytes : List ℕ) → AreBytes bytes → IsGammaTable (gamma_held bytes)

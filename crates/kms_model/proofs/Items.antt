@@ -1,5 +1,6 @@
 -- What holds of all items of a list, and of one of them.
-use Rattle.std.proofs.Common.{◌≡◌, ℕ, zero, suc, ◌+◌, ◌<◌, ◌≤◌, ◌⊎◌, Bool, true, false, List, [], ◌∷◌, length, map, Option, Some, None, inl, inr, arith, refl, sym, ap, ◌∙◌, subst}
+use Rattle.std.proofs.Common.{◌≡◌, ℕ, zero, suc, ◌+◌, ◌<◌, ◌≤◌, ◌⊎◌, Bool, true, false, List, [], ◌∷◌, length, map, Option, Some, None, inl}
+use Rattle.std.proofs.Common.{inr, arith, refl, sym, ap, ◌∙◌, subst}
 use Rattle.std.specs.Prelude.{slice_get, filter}
 use Rattle.std.specs.List.{list_any, list_all, range_with_len}
 use Rattle.std.proofs.lemmas.Bool.{and_parts, and_from, or_parts, or_from, or_cases, or_left, or_right, cases_eq}
@@ -49,7 +50,11 @@ passes_further p y ys found = record { item = found.item; is_in = inr found.is_i
 pub list_any-some : {A : Type 0} (p : A → Bool) (xs : List A) → list_any p xs ≡ true → Passes p xs
 list_any-some p [] some = cc
 list_any-some p (y ∷ ys) some =
-    elim (or_cases (p y) (list_any p ys) some) [ inl here ↦ record { item = y; is_in = inl refl; holds = here } | inr rest ↦ passes_further p y ys (list_any-some p ys rest) ]
+    elim (or_cases (p y) (list_any p ys) some) [
+      | inl here ↦ record { item = y; is_in = inl refl; holds = here }
+      | inr rest ↦ passes_further
+          p y ys (list_any-some p ys rest)
+    ]
 
 pub list_any-same : {A : Type 0} (p q : A → Bool) (xs : List A) → ((x : A) → IsIn x xs → p x ≡ q x) → list_any p xs ≡ list_any q xs
 list_any-same p q [] same = refl
@@ -88,7 +93,8 @@ pub first_some-none : {A B : Type 0} (f : A → Option B) (xs : List A) → ((x 
 first_some-none f [] each = refl
 first_some-none f (y ∷ ys) each = or_else-nones (f y) (first_some f ys) (each y (inl refl)) (first_some-none f ys (λ x is. each x (inr is)))
 
-pub first_some-same : {A B : Type 0} (f g : A → Option B) (xs : List A) → ((x : A) → IsIn x xs → f x ≡ g x) → first_some f xs ≡ first_some g xs
+pub first_some-same : {A B : Type 0} (f g : A → Option B) (xs : List A) → ((x : A) → IsIn x xs → f x ≡ g x) → first_some f xs
+    ≡ first_some g xs
 first_some-same f g [] same = refl
 first_some-same f g (y ∷ ys) same = rw (same y (inl refl), first_some-same f g ys (λ x is. same x (inr is))) refl
 
@@ -136,11 +142,22 @@ pub record IsWithId {A : Type 0} (from : ℕ) (xs : List A) (p : ℕ × A) : Typ
   pub at : slice_get xs index ≡ Some p.1
 
 with_id_further : {A : Type 0} (from : ℕ) (x : A) (xs : List A) (p : ℕ × A) → IsWithId (from + 1) xs p → IsWithId from (x ∷ xs) p
-with_id_further from x xs p is = record { index = suc is.index; within = omega (arith, is.within); same = omega (arith, is.same); at = is.at }
+with_id_further from x xs p is = record {
+  index = suc is.index;
+  within = omega (arith, is.within);
+  same = omega (arith, is.same);
+  at = is.at;
+}
 
 pub with_ids-in : {A : Type 0} (from : ℕ) (xs : List A) (p : ℕ × A) → IsIn p (with_ids from xs) → IsWithId from xs p
 with_ids-in from [] p is = absurd is
-with_ids-in from (x ∷ xs) p (inl same) = record { index = 0; within = omega arith; same = ap (λ q. q.0) (sym same) ∙ omega arith; at = ap (λ q. Some q.1) same }
+with_ids-in from (x ∷ xs) p (inl same) = record {
+  index = 0;
+  within = omega arith;
+  same = ap (λ q. q.0) (sym same) ∙ omega arith;
+  at = ap
+      (λ q. Some q.1) same;
+}
 with_ids-in from (x ∷ xs) p (inr rest) = with_id_further from x xs p (with_ids-in (from + 1) xs p rest)
 
 pub with_ids-has : {A : Type 0} (from : ℕ) (xs : List A) (i : ℕ) (x : A) → slice_get xs i ≡ Some x → IsIn (from + i, x) (with_ids from xs)

@@ -37,20 +37,25 @@ same_target a b has =
     let both = and_parts (object_of a == object_of b) (prop_of a.prop == prop_of b.prop) has in
     record { object = eqb-true (object_of a) (object_of b) both.0; prop = eqb-true (prop_of a.prop) (prop_of b.prop) both.1 }
 
-has_target-from : (a : Assign) (object prop : ℕ) → object ≡ object_of a → prop ≡ prop_of a.prop → ((object_of a == object) && (prop_of a.prop == prop)) ≡ true
-has_target-from a object prop same_object same_prop = and_from _ _ (eq-eqb (object_of a) object (sym same_object)) (eq-eqb (prop_of a.prop) prop (sym same_prop))
+has_target-from : (a : Assign) (object prop : ℕ) → object ≡ object_of a → prop ≡ prop_of a.prop
+    → ((object_of a == object) && (prop_of a.prop == prop)) ≡ true
+has_target-from a object prop same_object same_prop = and_from _ _ (eq-eqb (object_of a) object (sym same_object))
+    (eq-eqb (prop_of a.prop) prop (sym same_prop))
 
 eqb_turned : (a b : ℕ) → (a == b) ≡ (b == a)
 eqb_turned a b = grind (arith, nat_tests)
 
-no_value : (object prop : ℕ) (b : Assign) → ((object == object_of b) && (prop == prop_of b.prop)) ≡ false → value_if ((object_of b == object) && (prop_of b.prop == prop)) b.value ≡ None
+no_value : (object prop : ℕ) (b : Assign) → ((object == object_of b) && (prop == prop_of b.prop)) ≡ false
+    → value_if ((object_of b == object) && (prop_of b.prop == prop)) b.value ≡ None
 no_value object prop b none = rw (eqb_turned (object_of b) object, eqb_turned (prop_of b.prop) prop, none) refl
 
 -- no later assignment sets what one sets
-last_value-none : (object prop : ℕ) (assigns : List Assign) → list_any (λ b. (object == object_of b) && (prop == prop_of b.prop)) assigns ≡ false → last_value assigns object prop ≡ None
+last_value-none : (object prop : ℕ) (assigns : List Assign) → list_any (λ b. (object == object_of b) && (prop == prop_of b.prop)) assigns
+    ≡ false → last_value assigns object prop ≡ None
 last_value-none object prop [] none = refl
 last_value-none object prop (b ∷ assigns) none =
-    let both = or_parts ((object == object_of b) && (prop == prop_of b.prop)) (list_any (λ c. (object == object_of c) && (prop == prop_of c.prop)) assigns) none in
+    let both = or_parts ((object == object_of b) && (prop == prop_of b.prop))
+    (list_any (λ c. (object == object_of c) && (prop == prop_of c.prop)) assigns) none in
     rw (last_value-none object prop assigns both.1) (no_value object prop b both.0)
 
 -- The last assignment with the target of one: it is what the property of the object is set to.
@@ -65,13 +70,20 @@ pub record HasLast (f : ℕ → Look) (assigns : List Assign) (a : Assign) : Typ
   pub is : IsLast f assigns item
 
 -- a set of those of later assignments is one of all
-listed_later : (f : ℕ → Look) (a : Assign) (assigns : List Assign) (s : Set) → IsIn s (last_sets f assigns) → IsIn s (last_sets f (a ∷ assigns))
+listed_later : (f : ℕ → Look) (a : Assign) (assigns : List Assign) (s : Set) → IsIn s (last_sets f assigns)
+    → IsIn s (last_sets f (a ∷ assigns))
 unfolding last_sets
-listed_later f a assigns s member = elim (cases_Bool (list_any (has_target_of a) assigns)) [ inl again ↦ rw again member | inr not_again ↦ rw not_again (inr member) ]
+listed_later f a assigns s member = elim (cases_Bool (list_any (has_target_of a) assigns))
+    [ inl again ↦ rw again member | inr not_again ↦ rw not_again (inr member) ]
 
 -- the last of later assignments is the last of all
 last_later : (f : ℕ → Look) (a : Assign) (assigns : List Assign) (b : Assign) → IsLast f assigns b → IsLast f (a ∷ assigns) b
-last_later f a assigns b is = record { member = inr is.member; listed = listed_later f a assigns (set_of f b) is.listed; last = rw is.last refl }
+last_later f a assigns b is = record {
+  member = inr is.member;
+  listed = listed_later f a assigns (set_of f b) is.listed;
+  last = rw is.last
+      refl;
+}
 
 -- an assignment that no later one sets again is the last
 last_here : (f : ℕ → Look) (a : Assign) (assigns : List Assign) → list_any (has_target_of a) assigns ≡ false → IsLast f (a ∷ assigns) a
@@ -94,10 +106,18 @@ has_last f (b ∷ assigns) a (inl same) = elim (cases_Bool (list_any (has_target
       let target = same_target b found.item found.passes in
       record {
         item = last.item;
-        same = record { object = ap object_of (sym same) ∙ target.object ∙ last.same.object; prop = ap (λ (x : Assign). prop_of x.prop) (sym same) ∙ target.prop ∙ last.same.prop };
+        same = record {
+          object = ap object_of (sym same) ∙ target.object ∙ last.same.object;
+          prop = ap (λ (x : Assign). prop_of x.prop)
+              (sym same) ∙ target.prop ∙ last.same.prop;
+        };
         is = last_later f b assigns last.item last.is;
       })
-  | inr none ↦ record { item = b; same = record { object = ap object_of (sym same); prop = ap (λ (x : Assign). prop_of x.prop) (sym same) }; is = last_here f b assigns none }
+  | inr none ↦ record {
+    item = b;
+    same = record { object = ap object_of (sym same); prop = ap (λ (x : Assign). prop_of x.prop) (sym same) };
+    is = last_here f b assigns none;
+  }
 ]
 
 -- each set comes from a last assignment
@@ -109,7 +129,8 @@ pub record FromLast (f : ℕ → Look) (assigns : List Assign) (s : Set) : Type 
 from_later : (f : ℕ → Look) (a : Assign) (assigns : List Assign) (s : Set) → FromLast f assigns s → FromLast f (a ∷ assigns) s
 from_later f a assigns s from = record { item = from.item; set = from.set; is = last_later f a assigns from.item from.is }
 
-from_here : (f : ℕ → Look) (a : Assign) (assigns : List Assign) (s : Set) → list_any (has_target_of a) assigns ≡ false → (IsIn s (last_sets f assigns) → FromLast f assigns s) → (set_of f a ≡ s) ⊎ IsIn s (last_sets f assigns) → FromLast f (a ∷ assigns) s
+from_here : (f : ℕ → Look) (a : Assign) (assigns : List Assign) (s : Set) → list_any (has_target_of a) assigns ≡ false
+    → (IsIn s (last_sets f assigns) → FromLast f assigns s) → (set_of f a ≡ s) ⊎ IsIn s (last_sets f assigns) → FromLast f (a ∷ assigns) s
 from_here f a assigns s none rest (inl same) = record { item = a; set = sym same; is = last_here f a assigns none }
 from_here f a assigns s none rest (inr later) = from_later f a assigns s (rest later)
 
@@ -129,18 +150,29 @@ pub record SetBy (assigns : List Assign) (object prop : ℕ) (v : Value) : Type 
   pub prop_is : prop_of item.prop ≡ prop
   pub value_is : item.value ≡ v
 
-set_here : (a : Assign) (assigns : List Assign) (object prop : ℕ) (v : Value) (b : Bool) → ((object_of a == object) && (prop_of a.prop == prop)) ≡ b → value_if b a.value ≡ Some v → SetBy (a ∷ assigns) object prop v
+set_here : (a : Assign) (assigns : List Assign) (object prop : ℕ) (v : Value) (b : Bool)
+    → ((object_of a == object) && (prop_of a.prop == prop)) ≡ b → value_if b a.value ≡ Some v → SetBy (a ∷ assigns) object prop v
 set_here a assigns object prop v false is given = absurd (cc)
 set_here a assigns object prop v true is given =
     let both = and_parts (object_of a == object) (prop_of a.prop == prop) is in
-    record { item = a; member = inl refl; object_is = eqb-true (object_of a) object both.0; prop_is = eqb-true (prop_of a.prop) prop both.1; value_is = cc }
+    record {
+      item = a;
+      member = inl refl;
+      object_is = eqb-true (object_of a) object both.0;
+      prop_is = eqb-true (prop_of a.prop) prop both.1;
+      value_is = cc;
+    }
 
-set_at : (a : Assign) (assigns : List Assign) (object prop : ℕ) (v : Value) (later : Option Value) → ((u : Value) → later ≡ Some u → SetBy assigns object prop u) → or_else later (value_if ((object_of a == object) && (prop_of a.prop == prop)) a.value) ≡ Some v → SetBy (a ∷ assigns) object prop v
-set_at a assigns object prop v None rest given = set_here a assigns object prop v ((object_of a == object) && (prop_of a.prop == prop)) refl given
+set_at : (a : Assign) (assigns : List Assign) (object prop : ℕ) (v : Value) (later : Option Value)
+    → ((u : Value) → later ≡ Some u → SetBy assigns object prop u)
+    → or_else later (value_if ((object_of a == object) && (prop_of a.prop == prop)) a.value) ≡ Some v → SetBy (a ∷ assigns) object prop v
+set_at a assigns object prop v None rest given = set_here a assigns object prop v ((object_of a == object) && (prop_of a.prop == prop)) refl
+    given
 set_at a assigns object prop v (Some u) rest given =
     let by = rest v given in
     record { item = by.item; member = inr by.member; object_is = by.object_is; prop_is = by.prop_is; value_is = by.value_is }
 
 pub set_by : (assigns : List Assign) (object prop : ℕ) (v : Value) → last_value assigns object prop ≡ Some v → SetBy assigns object prop v
 set_by [] object prop v given = absurd (cc)
-set_by (a ∷ assigns) object prop v given = set_at a assigns object prop v (last_value assigns object prop) (λ u is. set_by assigns object prop u is) given
+set_by (a ∷ assigns) object prop v given = set_at a assigns object prop v (last_value assigns object prop)
+    (λ u is. set_by assigns object prop u is) given

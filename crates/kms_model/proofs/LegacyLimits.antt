@@ -1,6 +1,7 @@
 -- Worked examples of lines of scripts with older calls at their limits, of commands that such scripts share with others, and of calls
 -- by themselves, computed.
-use Rattle.std.proofs.Common.{◌≡◌, ℕ, ◌-◌, true, false, List, [], ◌∷◌, ◌++◌, map, replicate, refl, codes, pos, negsuc, Option, Some, None, is_some, Ok, Err}
+use Rattle.std.proofs.Common.{◌≡◌, ℕ, ◌-◌, true, false, List, [], ◌∷◌, ◌++◌, map, replicate, refl, codes, pos, negsuc, Option, Some, None}
+use Rattle.std.proofs.Common.{is_some, Ok, Err}
 use Rattle.kms_model.specs.declared.legacy.LegacyCall.{LegacyCall}
 use Rattle.kms_model.specs.declared.legacy.LegacyCall.TheVariants as call
 use Rattle.kms_model.specs.declared.legacy.LegacyCommand.TheVariants.{Plain}
@@ -50,7 +51,8 @@ limits_are_those_of_scripts = refl
 
 -- A script has those of its commands and labels, but it may have more bytes than a text that is read.
 pub spelt_lines_have_no_limit_of_bytes :
-    map (λ d. is_some (spelt_legacy_line d (line_of (codes "fence f")))) (lines_with 0 0 script_limit ∷ lines_with 4096 0 0 ∷ lines_with 0 4096 0 ∷ [])
+    map (λ d. is_some (spelt_legacy_line d (line_of (codes "fence f"))))
+    (lines_with 0 0 script_limit ∷ lines_with 4096 0 0 ∷ lines_with 0 4096 0 ∷ [])
     ≡ true ∷ false ∷ false ∷ []
 unfolding on_legacy
 spelt_lines_have_no_limit_of_bytes = refl

@@ -11,7 +11,8 @@ use Rattle.kms_model.specs.declared.objects.Kind.TheVariants as kind
 use Rattle.kms_model.specs.declared.objects.Topology.{Topology}
 use Rattle.kms_model.specs.declared.pictures.FbInfo.{FbInfo}
 use Rattle.kms_model.specs.declared.pictures.Rect.{Rect}
-use Rattle.kms_model.specs.declared.properties.TheConstants.{FB_ID, CRTC_ID, CRTC_X, CRTC_Y, CRTC_W, CRTC_H, SRC_X, SRC_Y, SRC_W, SRC_H, ACTIVE, MODE_ID}
+use Rattle.kms_model.specs.declared.properties.TheConstants.{FB_ID, CRTC_ID, CRTC_X, CRTC_Y, CRTC_W, CRTC_H, SRC_X, SRC_Y, SRC_W, SRC_H}
+use Rattle.kms_model.specs.declared.properties.TheConstants.{ACTIVE, MODE_ID}
 use Rattle.kms_model.specs.declared.scripts.Assign.{Assign}
 use Rattle.kms_model.specs.declared.scripts.Request.{Request}
 use Rattle.kms_model.specs.declared.scripts.Script.{Script}
@@ -51,7 +52,8 @@ planes_of_two = record {
 }
 
 -- each CRTC has the least that no lower one has
-pub each_crtc_has_its_own_planes : map (λ type. special_plane planes_of_two type 0 ∷ special_plane planes_of_two type 1 ∷ []) (primary ∷ cursor ∷ [])
+pub each_crtc_has_its_own_planes : map (λ type. special_plane planes_of_two type 0 ∷ special_plane planes_of_two type 1 ∷ [])
+    (primary ∷ cursor ∷ [])
     ≡ (Some 1 ∷ Some 3 ∷ []) ∷ (Some 4 ∷ Some 2 ∷ []) ∷ []
 unfolding on_legacy
 each_crtc_has_its_own_planes = refl

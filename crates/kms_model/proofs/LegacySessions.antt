@@ -1,6 +1,7 @@
 -- Worked examples of whole scripts with older calls, computed: that requests say what they say, and that the device shows their
 -- screen.
-use Rattle.std.proofs.Common.{◌≡◌, ℕ, Bool, true, false, List, [], ◌∷◌, ◌++◌, length, map, refl, codes, pos, Option, Some, None, Result, Ok, Err, drop}
+use Rattle.std.proofs.Common.{◌≡◌, ℕ, Bool, true, false, List, [], ◌∷◌, ◌++◌, length, map, refl, codes, pos, Option, Some, None, Result, Ok}
+use Rattle.std.proofs.Common.{Err, drop}
 use Rattle.std.specs.Prelude.{◌&&◌, ◌==◌, ℤ}
 use Rattle.std.specs.Cmp.Lexicographic.{pointwise}
 use Rattle.std.specs.List.{flat_map, list_all}
@@ -113,7 +114,8 @@ names_in (Err fault) = []
 
 -- a flip that leaves no line, and what lights the CRTC, before its labels are made and behind that
 abbrev says_before_it_makes : Result LegacyScript Fault
-says_before_it_makes = legacy_input (head ++ codes "client\npageflip 0 @x 0x0 0\nsetcrtc 0 @f 0 0 @m 0\n" ++ pixel_made ++ mode_made ++ codes "setcrtc 0 @f 0 0 @m 0\n")
+says_before_it_makes = legacy_input (head ++ codes "client\npageflip 0 @x 0x0 0\nsetcrtc 0 @f 0 0 @m 0\n" ++ pixel_made ++ mode_made
+    ++ codes "setcrtc 0 @f 0 0 @m 0\n")
 
 abbrev says_anew : Result Script Fault
 says_anew = input (head ++ codes "client\natomic 0x400 0 crtc0.ACTIVE=1 crtc0.MODE_ID=@m conn0.CRTC_ID=crtc0 plane0.FB_ID=@f plane0.CRTC_ID=crtc0 plane0.CRTC_X=0 plane0.CRTC_Y=0 plane0.CRTC_W=0 plane0.CRTC_H=0 plane0.SRC_X=0 plane0.SRC_Y=0 plane0.SRC_W=0 plane0.SRC_H=0\n" ++ pixel_made ++ mode_made ++ codes "atomic 0x400 0 crtc0.ACTIVE=1 crtc0.MODE_ID=@m conn0.CRTC_ID=crtc0 plane0.FB_ID=@f plane0.CRTC_ID=crtc0 plane0.CRTC_X=0 plane0.CRTC_Y=0 plane0.CRTC_W=1 plane0.CRTC_H=1 plane0.SRC_X=0 plane0.SRC_Y=0 plane0.SRC_W=65536 plane0.SRC_H=65536\n")
@@ -231,7 +233,8 @@ unfolding on_legacy
 session_is_answered = refl
 
 -- both CRTCs show the screen before and after each of its lines
-pub session_keeps_the_screen : shows_along session_names (device_in session) session_start blank_screen (old_lines_in session) session_left ≡ true
+pub session_keeps_the_screen : shows_along session_names (device_in session) session_start blank_screen (old_lines_in session) session_left
+    ≡ true
 unfolding on_legacy
 session_keeps_the_screen = refl
 

@@ -51,12 +51,14 @@ unfolding on_machines
 empty_device_is_drained = refl
 
 -- a modeset needs leave
-pub modeset_needs_leave : one plain (head ++ made ++ lights (codes "0x0")) ≡ codes "J 1 1\nJ 1 2\nJ 1 3\nR 1 1 0 made 1000\nR 1 2 1 made 1001\nR 1 3 2 made 1002\nR 1 4 3 EINVAL 24\nD drained\n"
+pub modeset_needs_leave : one plain (head ++ made ++ lights (codes "0x0"))
+    ≡ codes "J 1 1\nJ 1 2\nJ 1 3\nR 1 1 0 made 1000\nR 1 2 1 made 1001\nR 1 3 2 made 1002\nR 1 4 3 EINVAL 24\nD drained\n"
 unfolding on_machines
 modeset_needs_leave = refl
 
 -- a plane that is not there
-pub missing_plane_is_refused : report_of_script plain (script 0x400 1) ≡ codes "J 1 1\nJ 1 2\nJ 1 3\nR 1 1 0 made 1000\nR 1 2 1 made 1001\nR 1 3 2 made 1002\nR 1 4 3 ENOENT 4\nD drained\n"
+pub missing_plane_is_refused : report_of_script plain (script 0x400 1)
+    ≡ codes "J 1 1\nJ 1 2\nJ 1 3\nR 1 1 0 made 1000\nR 1 2 1 made 1001\nR 1 3 2 made 1002\nR 1 4 3 ENOENT 4\nD drained\n"
 unfolding on_machines
 missing_plane_is_refused = refl
 
@@ -66,7 +68,9 @@ unfolding on_machines
 commit_is_busy_until_the_flip = refl
 
 -- it is not swapped then
-pub busy_commit_is_not_swapped : not_legal_at (quick_script ++ codes "atomic 0x200 0 plane0.alpha=65535\natomic 0x200 0 plane0.alpha=65535\n" ++ up_to_swap ++ second_locks ++ codes "T swap 1\n") ≡ Some 12
+pub busy_commit_is_not_swapped : not_legal_at (quick_script
+    ++ codes "atomic 0x200 0 plane0.alpha=65535\natomic 0x200 0 plane0.alpha=65535\n" ++ up_to_swap ++ second_locks ++ codes "T swap 1\n")
+    ≡ Some 12
 unfolding on_machines
 busy_commit_is_not_swapped = refl
 
@@ -76,7 +80,9 @@ unfolding on_machines
 blocking_commit_waits_in_its_tail = refl
 
 -- it is not claimed before the flip
-pub commit_is_not_claimed_before_the_flip : not_legal_at (quick_script ++ codes "atomic 0x0 0 plane0.alpha=65535\n" ++ up_to_swap ++ tail_up_to_hwdone ++ second_locks ++ codes "T swap 1\nT claim 1\n") ≡ Some 18
+pub commit_is_not_claimed_before_the_flip : not_legal_at
+    (quick_script ++ codes "atomic 0x0 0 plane0.alpha=65535\n" ++ up_to_swap ++ tail_up_to_hwdone ++ second_locks
+    ++ codes "T swap 1\nT claim 1\n") ≡ Some 18
 unfolding on_machines
 commit_is_not_claimed_before_the_flip = refl
 
@@ -87,7 +93,8 @@ moving_script = head_of_two ++ made ++ codes "atomic 0x400 0 " ++ sets ++ codes 
 abbrev moving_steps : List ℕ
 moving_steps = codes "schedule\nT make 1\nT make 1\nT make 1\nT begin 1\nT lock 1 crtc0\nT lock 1 crtc1\nT lock 1 plane0\nT lock 1 conn0\nT lock 1 conn1\nT swap 1\nT claim 0\nT write 0 crtc0\nT write 0 crtc1\nT write 0 plane0\nT flush 0 crtc0\nT flush 0 crtc1\nT hwdone 0\nT vblank crtc0\nT vblank crtc1\nT cleanup 0\nT return 1\nT begin 1\nT lock 1 plane0\nT lock 1 crtc0\nT swap 1\nT begin 2\nT lock 2 plane0\nT lock 2 crtc1\nT swap 2\n"
 
--- The commit that puts the plane on the second CRTC waits for the one that takes it off the first, though they share no CRTC: a claim that looks at CRTCs alone is not legal.
+-- The commit that puts the plane on the second CRTC waits for the one that takes it off the first, though they share no CRTC: a claim that
+-- looks at CRTCs alone is not legal.
 pub plane_waits_for_its_flip_on_the_other_crtc : not_legal_at (moving_script ++ moving_steps ++ codes "T claim 2\n") ≡ Some 30
 unfolding on_machines
 plane_waits_for_its_flip_on_the_other_crtc = refl
@@ -126,7 +133,8 @@ request_of_a_closed_framebuffer_is_not_swapped = refl
 
 -- two clients that test the same request
 abbrev meeting_script : List ℕ
-meeting_script = head ++ codes "client\natomic 0x100 0 plane0.alpha=1 crtc0.ACTIVE=0\nclient\natomic 0x100 0 plane0.alpha=1 crtc0.ACTIVE=0\n"
+meeting_script = head
+    ++ codes "client\natomic 0x100 0 plane0.alpha=1 crtc0.ACTIVE=0\nclient\natomic 0x100 0 plane0.alpha=1 crtc0.ACTIVE=0\n"
 
 -- the younger context backs off
 pub younger_context_backs_off : replayed plain (meeting_script ++ codes "schedule\nT begin 1\nT begin 2\nT lock 1 plane0\nT lock 2 crtc0\nT lock 2 plane0\nT backoff 2\nT lock 1 crtc0\nT test 1\nT relock 2\nT lock 2 crtc0\nT test 2\n") ≡ codes "R 1 1 0 tested\nR 2 1 0 tested\nD drained\n"
@@ -134,7 +142,8 @@ unfolding on_machines
 younger_context_backs_off = refl
 
 -- the older one waits for what a younger one holds
-pub older_context_waits : not_legal_at (meeting_script ++ codes "schedule\nT begin 1\nT begin 2\nT lock 1 plane0\nT lock 2 crtc0\nT lock 1 crtc0\n") ≡ Some 5
+pub older_context_waits : not_legal_at (meeting_script
+    ++ codes "schedule\nT begin 1\nT begin 2\nT lock 1 plane0\nT lock 2 crtc0\nT lock 1 crtc0\n") ≡ Some 5
 unfolding on_machines
 older_context_waits = refl
 
@@ -150,7 +159,8 @@ event_is_read_and_framebuffer_is_freed = refl
 
 -- one commit over two CRTCs that asks for events
 abbrev event_script : List ℕ
-event_script = head_of_two ++ made ++ codes "atomic 0x601 5 " ++ sets ++ codes " crtc1.ACTIVE=1 crtc1.MODE_ID=@m conn1.CRTC_ID=crtc1\nwait\nwait\n"
+event_script = head_of_two ++ made ++ codes "atomic 0x601 5 " ++ sets
+    ++ codes " crtc1.ACTIVE=1 crtc1.MODE_ID=@m conn1.CRTC_ID=crtc1\nwait\nwait\n"
 
 abbrev event_steps : List ℕ
 event_steps = codes "schedule\nT make 1\nT make 1\nT make 1\nT begin 1\nT lock 1 crtc0\nT lock 1 crtc1\nT lock 1 plane0\nT lock 1 conn0\nT lock 1 conn1\nT swap 1\nT claim 0\nT write 0 crtc0\nT write 0 crtc1\nT write 0 plane0\nT flush 0 crtc0\nT flush 0 crtc1\nT hwdone 0\n"
@@ -176,7 +186,8 @@ unfolding on_machines
 script_without_a_schedule_is_open = refl
 
 -- a schedule that ends behind a swap
-pub schedule_that_ends_early_is_open : replayed plain (first_script ++ up_to_swap) ≡ codes "J 1 1\nJ 1 2\nJ 1 3\nJ 1 4\nR 1 1 0 made 1000\nR 1 2 1 made 1001\nR 1 3 2 made 1002\nR 1 4 3 commit 0\nD open 8\n"
+pub schedule_that_ends_early_is_open : replayed plain (first_script ++ up_to_swap)
+    ≡ codes "J 1 1\nJ 1 2\nJ 1 3\nJ 1 4\nR 1 1 0 made 1000\nR 1 2 1 made 1001\nR 1 3 2 made 1002\nR 1 4 3 commit 0\nD open 8\n"
 unfolding on_machines
 schedule_that_ends_early_is_open = refl
 
@@ -196,7 +207,8 @@ unfolding on_machines
 cleanup_before_the_flip_is_not_legal = refl
 
 -- The number of a CRTC beyond the device is the id of a plane: its lock is not legal, and locks nothing.
-pub lock_of_a_crtc_beyond_the_device_is_not_legal : not_legal_at (first_script ++ codes "schedule\nT make 1\nT make 1\nT make 1\nT begin 1\nT lock 1 crtc100\n") ≡ Some 5
+pub lock_of_a_crtc_beyond_the_device_is_not_legal : not_legal_at
+    (first_script ++ codes "schedule\nT make 1\nT make 1\nT make 1\nT begin 1\nT lock 1 crtc100\n") ≡ Some 5
 unfolding on_machines
 lock_of_a_crtc_beyond_the_device_is_not_legal = refl
 

@@ -16,8 +16,10 @@ all_from p f a (suc n) i all low high =
     ]
 
 -- what all objects of a kind pass, one passes
-pub all_objects : (t : Topology) (kind : Kind) (p : ℕ → Bool) (index : ℕ) → list_all p (ids_of t kind) ≡ true → exists t kind index ≡ true → p (object_id kind index) ≡ true
-all_objects t kind p index all there = all_from p (object_id kind) 0 (count_of t kind) index all (omega arith) (omega (arith, ltb-true index (count_of t kind) there))
+pub all_objects : (t : Topology) (kind : Kind) (p : ℕ → Bool) (index : ℕ) → list_all p (ids_of t kind) ≡ true → exists t kind index ≡ true
+    → p (object_id kind index) ≡ true
+all_objects t kind p index all there = all_from p (object_id kind) 0 (count_of t kind) index all (omega arith)
+    (omega (arith, ltb-true index (count_of t kind) there))
 
 -- some number from a on, and below another, passes
 pub record Some_from (p : ℕ → Bool) (f : ℕ → ℕ) (a end : ℕ) : Type 0 where
@@ -31,7 +33,8 @@ some_from p f a zero any = absurd (cc)
 some_from p f a (suc n) any =
     elim (or_cases (p (f a)) (list_any p (map f (range_with_len (a + 1) n))) any) [
       | inl here ↦ record { index = a; low = omega arith; high = omega arith; passes = here }
-      | inr later ↦ (let found = some_from p f (a + 1) n later in record { index = found.index; low = omega (arith, found.low); high = omega (arith, found.high); passes = found.passes })
+      | inr later ↦ (let found = some_from p f (a + 1) n later
+          in record { index = found.index; low = omega (arith, found.low); high = omega (arith, found.high); passes = found.passes })
     ]
 
 -- an object of a kind that passes
@@ -50,9 +53,12 @@ any_from p f a zero i low high passes = absurd (omega arith)
 any_from p f a (suc n) i low high passes =
     elim (cases_eq i a) [
       | inl same ↦ or_left (p (f a)) (list_any p (map f (range_with_len (a + 1) n))) (rw (sym same) passes)
-      | inr other ↦ or_right (p (f a)) (list_any p (map f (range_with_len (a + 1) n))) (any_from p f (a + 1) n i (omega (arith, other)) (omega arith) passes)
+      | inr other ↦ or_right (p (f a)) (list_any p (map f (range_with_len (a + 1) n)))
+          (any_from p f (a + 1) n i (omega (arith, other)) (omega arith) passes)
     ]
 
 -- one that passes is among the objects of its kind
-pub object_passes : (t : Topology) (kind : Kind) (p : ℕ → Bool) (index : ℕ) → exists t kind index ≡ true → p (object_id kind index) ≡ true → list_any p (ids_of t kind) ≡ true
-object_passes t kind p index there passes = any_from p (object_id kind) 0 (count_of t kind) index (omega arith) (omega (arith, ltb-true index (count_of t kind) there)) passes
+pub object_passes : (t : Topology) (kind : Kind) (p : ℕ → Bool) (index : ℕ) → exists t kind index ≡ true → p (object_id kind index) ≡ true
+    → list_any p (ids_of t kind) ≡ true
+object_passes t kind p index there passes = any_from p (object_id kind) 0 (count_of t kind) index (omega arith)
+    (omega (arith, ltb-true index (count_of t kind) there)) passes

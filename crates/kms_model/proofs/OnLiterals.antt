@@ -13,5 +13,6 @@ use Rattle.kms_model.proofs.OneThread.{answers}
 
 -- the words of a report
 unfoldable pub on_literals : ⊤
-unfolding answers execute serial_from show_from verdict early_refusal assigns_refusal assign_refusal own_refusal late_refusal plane_refusal shown_refusal picture digits hex_on_literals sha256 digest_bytes hash_after compress rounds schedule first_words
+unfolding answers execute serial_from show_from verdict early_refusal assigns_refusal assign_refusal own_refusal late_refusal plane_refusal
+    shown_refusal picture digits hex_on_literals sha256 digest_bytes hash_after compress rounds schedule first_words
 on_literals = tt

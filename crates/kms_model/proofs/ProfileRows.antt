@@ -73,14 +73,17 @@ half_way = codes "plane0.CRTC_W=1 plane0.SRC_X=32768 plane0.SRC_W=65536"
 
 -- the report where its request is accepted, and where it is refused
 abbrev shown_as : List ℕ → List ℕ
-shown_as frame = codes "J 1 1\nJ 1 2\nJ 1 3\nJ 1 4\nR 1 1 0 made 1000\nR 1 2 1 made 1001\nR 1 3 2 made 1002\nR 1 4 3 commit 0\nL 0 0 1 " ++ frame ++ codes "\nD drained\n"
+shown_as frame = codes "J 1 1\nJ 1 2\nJ 1 3\nJ 1 4\nR 1 1 0 made 1000\nR 1 2 1 made 1001\nR 1 3 2 made 1002\nR 1 4 3 commit 0\nL 0 0 1 "
+    ++ frame ++ codes "\nD drained\n"
 
 abbrev refused_as : List ℕ → List ℕ
-refused_as why = codes "J 1 1\nJ 1 2\nJ 1 3\nR 1 1 0 made 1000\nR 1 2 1 made 1001\nR 1 3 2 made 1002\nR 1 4 3 " ++ why ++ codes "\nD drained\n"
+refused_as why = codes "J 1 1\nJ 1 2\nJ 1 3\nR 1 1 0 made 1000\nR 1 2 1 made 1001\nR 1 3 2 made 1002\nR 1 4 3 " ++ why
+    ++ codes "\nD drained\n"
 
 -- four pixels show each of two pixels twice
 pub two_pixels_are_shown_twice_each : one pixmaps (text_with (codes "2") twice_wide)
-    ≡ shown_as (codes "de5a6fb237d38c1df9e3176502b0d071f240fcea9e0f7334b38016f536fe617f\nP3\n4 1\n255\n97 98 99 97 98 99 102 111 111 102 111 111")
+    ≡ shown_as
+    (codes "de5a6fb237d38c1df9e3176502b0d071f240fcea9e0f7334b38016f536fe617f\nP3\n4 1\n255\n97 98 99 97 98 99 102 111 111 102 111 111")
 unfolding on_machines
 two_pixels_are_shown_twice_each = refl
 
@@ -90,17 +93,20 @@ unfolding on_machines
 profile_1_does_not_scale = refl
 
 -- eight pixels of two are four times as many, and nine are more
-pub at_most_four_times_as_wide : replies (device_of 2) ((two_made ++ wide 131072 8 ∷ wide 131072 9 ∷ []) ∷ []) ≡ three_made ++ reply.Commit 0 ∷ refused refusal.SCALED ∷ []
+pub at_most_four_times_as_wide : replies (device_of 2) ((two_made ++ wide 131072 8 ∷ wide 131072 9 ∷ []) ∷ []) ≡ three_made
+    ++ reply.Commit 0 ∷ refused refusal.SCALED ∷ []
 unfolding on_literals
 at_most_four_times_as_wide = refl
 
 -- one pixel of four is a quarter, and one of a little more is less
-pub at_least_a_quarter_as_wide : replies (device_of 2) ((made_wide (1 ∷ 2 ∷ 3 ∷ 4 ∷ 5 ∷ []) 5 ++ wide 262144 1 ∷ wide 262145 1 ∷ []) ∷ []) ≡ three_made ++ reply.Commit 0 ∷ refused refusal.SCALED ∷ []
+pub at_least_a_quarter_as_wide : replies (device_of 2) ((made_wide (1 ∷ 2 ∷ 3 ∷ 4 ∷ 5 ∷ []) 5 ++ wide 262144 1 ∷ wide 262145 1 ∷ []) ∷ [])
+    ≡ three_made ++ reply.Commit 0 ∷ refused refusal.SCALED ∷ []
 unfolding on_literals
 at_least_a_quarter_as_wide = refl
 
 -- the last two pixels of the widest destination show the last pixel of the widest source
-pub widest_source_is_shown_to_its_end : map (source_at (pos 0) (pos 4294967295) (neg_ℤ (pos 262140)) (pos 262142)) (0 ∷ 1 ∷ []) ≡ 65535 ∷ 65535 ∷ []
+pub widest_source_is_shown_to_its_end : map (source_at (pos 0) (pos 4294967295) (neg_ℤ (pos 262140)) (pos 262142)) (0 ∷ 1 ∷ []) ≡ 65535
+    ∷ 65535 ∷ []
 widest_source_is_shown_to_its_end = refl
 
 -- Sources that begin between pixels
@@ -121,7 +127,9 @@ profile_1_begins_at_a_pixel = refl
 abbrev inverting : List ℕ
 inverting = flat_map (λ value. replicate 6 (255 - value) ++ 0 ∷ 0 ∷ []) (range_with_len 0 256)
 
-pub inverting_table_turns_values_over : option_map (λ g. map (λ value. slice_index g.red value ∷ slice_index g.green value ∷ slice_index g.blue value ∷ []) (0 ∷ 97 ∷ 255 ∷ [])) (gamma_of_bytes inverting)
+pub inverting_table_turns_values_over : option_map
+    (λ g. map (λ value. slice_index g.red value ∷ slice_index g.green value ∷ slice_index g.blue value ∷ []) (0 ∷ 97 ∷ 255 ∷ []))
+    (gamma_of_bytes inverting)
     ≡ Some ((255 ∷ 255 ∷ 255 ∷ []) ∷ (158 ∷ 158 ∷ 158 ∷ []) ∷ (0 ∷ 0 ∷ 0 ∷ []) ∷ [])
 inverting_table_turns_values_over = refl
 
@@ -131,7 +139,8 @@ shorter_blob_is_no_table = refl
 
 -- a framebuffer of one pixel, a mode and a blob, under the labels 1 to 3, and a request that shows them
 abbrev made_with_table : List ℕ → List Command
-made_with_table bytes = command.Buffer 0 1 1 Xr24 (Solid 0x00616263) ∷ command.AddFb 1 0 ∷ command.Mode 2 named_tiny ∷ command.Blob 3 bytes ∷ []
+made_with_table bytes = command.Buffer 0 1 1 Xr24 (Solid 0x00616263) ∷ command.AddFb 1 0 ∷ command.Mode 2 named_tiny ∷ command.Blob 3 bytes
+    ∷ []
 
 abbrev sets_table : Assign
 sets_table = sets kind.Crtc 0 GAMMA_LUT (value.Named 3)
@@ -139,30 +148,44 @@ sets_table = sets kind.Crtc 0 GAMMA_LUT (value.Named 3)
 abbrev four_made : List Reply
 four_made = three_made ++ reply.Made 1003 ∷ []
 
-pub table_of_2048_bytes_is_accepted : replies (device_of 2) ((made_with_table inverting ++ request ALLOW_MODESET (light ++ sets_table ∷ []) ∷ []) ∷ []) ≡ four_made ++ reply.Commit 0 ∷ []
+pub table_of_2048_bytes_is_accepted : replies (device_of 2)
+    ((made_with_table inverting ++ request ALLOW_MODESET (light ++ sets_table ∷ []) ∷ []) ∷ []) ≡ four_made ++ reply.Commit 0 ∷ []
 unfolding on_literals
 table_of_2048_bytes_is_accepted = refl
 
-pub table_of_2047_bytes_is_refused : replies (device_of 2) ((made_with_table (drop 1 inverting) ++ request ALLOW_MODESET (light ++ sets_table ∷ []) ∷ []) ∷ []) ≡ four_made ++ refused refusal.INVALID_VALUE ∷ []
+pub table_of_2047_bytes_is_refused : replies (device_of 2)
+    ((made_with_table (drop 1 inverting) ++ request ALLOW_MODESET (light ++ sets_table ∷ []) ∷ []) ∷ []) ≡ four_made
+    ++ refused refusal.INVALID_VALUE ∷ []
 unfolding on_literals
 table_of_2047_bytes_is_refused = refl
 
-pub profile_1_has_no_tables : replies (device_of 1) ((made_with_table inverting ++ request ALLOW_MODESET (light ++ sets_table ∷ []) ∷ []) ∷ []) ≡ four_made ++ refused refusal.NO_PROPERTY ∷ []
+pub profile_1_has_no_tables : replies (device_of 1)
+    ((made_with_table inverting ++ request ALLOW_MODESET (light ++ sets_table ∷ []) ∷ []) ∷ []) ≡ four_made ++ refused refusal.NO_PROPERTY
+    ∷ []
 unfolding on_literals
 profile_1_has_no_tables = refl
 
 -- a table is no mode
-pub table_is_no_mode : replies (device_of 2) ((made_with_table inverting ++ request ALLOW_MODESET (sets kind.Crtc 0 MODE_ID (value.Named 3) ∷ []) ∷ []) ∷ []) ≡ four_made ++ refused refusal.INVALID_VALUE ∷ []
+pub table_is_no_mode : replies (device_of 2) ((made_with_table inverting
+    ++ request ALLOW_MODESET (sets kind.Crtc 0 MODE_ID (value.Named 3) ∷ []) ∷ []) ∷ []) ≡ four_made ++ refused refusal.INVALID_VALUE ∷ []
 unfolding on_literals
 table_is_no_mode = refl
 
 -- a table goes with a request without leave for a modeset
-pub table_needs_no_leave : replies (device_of 2) ((made_with_table inverting ++ request ALLOW_MODESET light ∷ request 0x0 (sets_table ∷ []) ∷ []) ∷ []) ≡ four_made ++ reply.Commit 0 ∷ reply.Commit 1 ∷ []
+pub table_needs_no_leave : replies (device_of 2)
+    ((made_with_table inverting ++ request ALLOW_MODESET light ∷ request 0x0 (sets_table ∷ []) ∷ []) ∷ []) ≡ four_made ++ reply.Commit 0
+    ∷ reply.Commit 1 ∷ []
 unfolding on_literals
 table_needs_no_leave = refl
 
 abbrev turned_over : List Command → Script
-turned_over commands = record { version = 2; topology = device_of 2; names = codes "b" ∷ codes "f" ∷ codes "m" ∷ codes "g" ∷ []; clients = (made_with_table inverting ++ commands) ∷ [] }
+turned_over commands = record {
+  version = 2;
+  topology = device_of 2;
+  names = codes "b" ∷ codes "f" ∷ codes "m" ∷ codes "g"
+      ∷ [];
+  clients = (made_with_table inverting ++ commands) ∷ [];
+}
 
 abbrev entries : ℕ → List Entry
 entries count = map (λ place. record { client = 1; command = place }) (range_with_len 1 count)
@@ -194,6 +217,14 @@ unfolding on_scripts
 name_of_a_table_is_read = refl
 
 pub name_of_a_table_is_unknown_in_profile_1 : line_read 1 [] (codes "atomic 0x0 0 crtc0.GAMMA_LUT=0")
-    ≡ Ok (command.Atomic (record { flags = 0; user_data = 0; assigns = record { kind = kind.Crtc; index = 0; prop = Unknown 0; value = number 0 } ∷ [] }), codes "GAMMA_LUT" ∷ [])
+    ≡ Ok (
+      command.Atomic (record {
+        flags = 0;
+        user_data = 0;
+        assigns =
+            record { kind = kind.Crtc; index = 0; prop = Unknown 0; value = number 0 } ∷ [];
+      }),
+      codes "GAMMA_LUT" ∷ [],
+    )
 unfolding on_scripts
 name_of_a_table_is_unknown_in_profile_1 = refl

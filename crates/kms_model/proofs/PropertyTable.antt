@@ -5,7 +5,9 @@ use Rattle.std.specs.List.{AllByRecursion, list_all}
 use Rattle.std.proofs.lemmas.Bool.{and_parts, cases_Bool, cond-true, cond-false, eqb-true}
 use Rattle.kms_model.specs.declared.objects.Kind.{Kind}
 use Rattle.kms_model.specs.declared.objects.Kind.TheVariants.{Crtc, Enc}
-use Rattle.kms_model.specs.Device.Properties.{Property, all_flags, flags, format_of, formats, has_id, properties, property, property_id, property_in, range_of, immutable_of, name_of, is_in_profile, is_named, is_property, property_named}
+use Rattle.kms_model.specs.Device.Properties.{Property, all_flags, flags, format_of, formats, has_id, properties, property, property_id}
+use Rattle.kms_model.specs.Device.Properties.{property_in, range_of, immutable_of, name_of, is_in_profile, is_named, is_property}
+use Rattle.kms_model.specs.Device.Properties.{property_named}
 use Rattle.kms_model.specs.Request.Refusals.{is_of_kind}
 
 -- what each item passes, the first that passes another test passes
@@ -21,7 +23,8 @@ pub all_in_table : list_all (λ p. is_property p.id) properties ≡ true
 all_in_table = refl
 
 -- the property that a name finds is in the table
-pub is_property-named : (profile : ℕ) (kind : Kind) (name : List ℕ) → IfSome (property_named profile kind name) (λ p. is_property p.id ≡ true)
+pub is_property-named : (profile : ℕ) (kind : Kind) (name : List ℕ)
+    → IfSome (property_named profile kind name) (λ p. is_property p.id ≡ true)
 is_property-named profile kind name = find-list_all (λ p. is_property p.id) (is_named profile kind name) properties all_in_table
 
 -- the values of each row's property are those of the row
@@ -36,7 +39,8 @@ pub immutables : map (λ p. immutable_of p.id) properties ≡ map (λ p. Some p.
 immutables = refl
 
 -- each kind of object that has a property finds it by its name, in the first profile that has it and in the last
-pub ids : map (λ p. map (λ kind. property_id p.since kind p.name) p.kinds) properties ≡ map (λ p. map (λ kind. Some p.id) p.kinds) properties
+pub ids : map (λ p. map (λ kind. property_id p.since kind p.name) p.kinds) properties
+    ≡ map (λ p. map (λ kind. Some p.id) p.kinds) properties
 ids = refl
 
 pub ids_in_2 : map (λ p. map (λ kind. property_id 2 kind p.name) p.kinds) properties ≡ map (λ p. map (λ kind. Some p.id) p.kinds) properties
@@ -52,7 +56,22 @@ encoders profile name = refl
 
 -- each row is found by its id
 pub rows_found : AllByRecursion (λ p. property p.id ≡ Some p) properties
-rows_found = (refl, (refl, (refl, (refl, (refl, (refl, (refl, (refl, (refl, (refl, (refl, (refl, (refl, (refl, (refl, (refl, (refl, (refl, (refl, tt)))))))))))))))))))
+rows_found = (
+  refl,
+  (
+    refl,
+    (
+      refl,
+      (
+        refl,
+        (
+          refl,
+          (refl, (refl, (refl, (refl, (refl, (refl, (refl, (refl, (refl, (refl, (refl, (refl, (refl, (refl, tt)))))))))))))),
+        ),
+      ),
+    ),
+  ),
+)
 
 -- what is found among rows with an id, and passes another test, is a row with the id
 found_by_id : (id profile : ℕ) (ps : List Property) (p : Property) → AllByRecursion (λ q. property q.id ≡ Some q) ps
@@ -60,10 +79,14 @@ found_by_id : (id profile : ℕ) (ps : List Property) (p : Property) → AllByRe
 found_by_id id profile [] p rows found = absurd cc
 found_by_id id profile (q ∷ qs) p rows found =
     elim (cases_Bool (has_id id q && is_in_profile profile q)) [
-      | inl is ↦ (let same : Some q ≡ Some p = sym (cond-true (has_id id q && is_in_profile profile q) (Some q) (find (λ r. has_id id r && is_in_profile profile r) qs) is) ∙ found in
+      | inl is ↦ (let same : Some q ≡ Some p = sym
+          (cond-true (has_id id q && is_in_profile profile q) (Some q) (find (λ r. has_id id r && is_in_profile profile r) qs) is) ∙ found
+          in
           let own : q.id ≡ id = eqb-true q.id id (and_parts (has_id id q) (is_in_profile profile q) is).0 in
           sym (ap property own) ∙ rows.0 ∙ same)
-      | inr other ↦ found_by_id id profile qs p rows.1 (sym (cond-false (has_id id q && is_in_profile profile q) (Some q) (find (λ r. has_id id r && is_in_profile profile r) qs) other) ∙ found)
+      | inr other ↦ found_by_id id profile qs p rows.1
+          (sym (cond-false (has_id id q && is_in_profile profile q) (Some q) (find (λ r. has_id id r && is_in_profile profile r) qs) other)
+          ∙ found)
     ]
 
 -- the row of an id in a profile is the row of the id

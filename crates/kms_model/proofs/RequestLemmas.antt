@@ -1,5 +1,6 @@
 -- Requests that pass the early refusals, and what their assignments set.
-use Rattle.std.proofs.Common.{◌≡◌, ℕ, ◌≤◌, List, [], ◌∷◌, Bool, true, false, Option, Some, None, ℤ, pos, negsuc, refl, sym, subst, arith, inl, inr, lit<}
+use Rattle.std.proofs.Common.{◌≡◌, ℕ, ◌≤◌, List, [], ◌∷◌, Bool, true, false, Option, Some, None, ℤ, pos, negsuc, refl, sym, subst, arith}
+use Rattle.std.proofs.Common.{inl, inr, lit<}
 use Rattle.std.specs.Prelude.{not, ◌&&◌, int_le, nat_le, find, All, IfSome, length}
 use Rattle.std.specs.List.{list_all}
 use Rattle.std.proofs.lemmas.Bool.{and_parts, ltb-true, leb-true, not-true}
@@ -23,7 +24,8 @@ use Rattle.kms_model.specs.Device.Properties.{Property, properties, property, ha
 use Rattle.kms_model.specs.Script.Words.{between}
 use Rattle.kms_model.proofs.Items.{number_if-none}
 use Rattle.kms_model.proofs.PropertyTable.{find-list_all, of_kind-in}
-use Rattle.kms_model.specs.Request.Refusals.{own_refusal, flags_refusal, assign_refusal, assigns_refusal, early_refusal, has_property, is_immutable, is_value, is_in_range, is_in_range_of, is_of_kind}
+use Rattle.kms_model.specs.Request.Refusals.{own_refusal, flags_refusal, assign_refusal, assigns_refusal, early_refusal, has_property}
+use Rattle.kms_model.specs.Request.Refusals.{is_immutable, is_value, is_in_range, is_in_range_of, is_of_kind}
 use Rattle.kms_model.specs.Request.Apply.{prop_of}
 use Rattle.kms_model.specs.Request.Resolves.{IsAllowed, IsSettable, IsSettableNumber, IsSettableValue, HasPlace}
 
@@ -51,7 +53,8 @@ allowed t f earlier a none =
       value = not_not (is_value t f a.prop a.value) (number_if-none 7 _ six.1);
     }
 
-pub all_allowed : (t : Topology) (f : ℕ → Look) (earlier assigns : List Assign) → assigns_refusal t f earlier assigns ≡ None → All (IsAllowed t f) assigns
+pub all_allowed : (t : Topology) (f : ℕ → Look) (earlier assigns : List Assign) → assigns_refusal t f earlier assigns ≡ None
+    → All (IsAllowed t f) assigns
 unfolding assigns_refusal
 all_allowed t f earlier [] none = All-nil (IsAllowed t f)
 all_allowed t f earlier (a ∷ assigns) none =
@@ -75,7 +78,8 @@ has_small_range CrtcName = true
 small_ranges : list_all (λ p. has_small_range p.range) properties ≡ true
 small_ranges = refl
 
-small_low : (low high z : ℤ) → int_le (negsuc 2147483647) low ≡ true → int_le high (pos 4294967295) ≡ true → int_le low z ≡ true → int_le z high ≡ true → IsSettableNumber z
+small_low : (low high z : ℤ) → int_le (negsuc 2147483647) low ≡ true → int_le high (pos 4294967295) ≡ true → int_le low z ≡ true
+    → int_le z high ≡ true → IsSettableNumber z
 small_low (pos a) (pos b) (pos c) h k l m = grind (arith, nat_tests)
 small_low (negsuc a) (pos b) (pos c) h k l m = grind (arith, nat_tests)
 small_low (negsuc a) (pos b) (negsuc c) h k l m = grind (arith, nat_tests)
@@ -90,7 +94,8 @@ small_number (pos n) h k = grind (arith, nat_tests)
 small_number (negsuc n) h k = grind (arith, nat_tests)
 
 -- the values of a range are within what some property can have
-settable_value : (t : Topology) (f : ℕ → Look) (prop : ℕ) (range : Range) (v : Value) → t.crtcs ≤ 4 → has_small_range range ≡ true → is_in_range t f prop range v ≡ true → IsSettableValue v
+settable_value : (t : Topology) (f : ℕ → Look) (prop : ℕ) (range : Range) (v : Value) → t.crtcs ≤ 4 → has_small_range range ≡ true
+    → is_in_range t f prop range v ≡ true → IsSettableValue v
 settable_value t f prop (Numbers low high) (Num n) few small within =
     let bounds = and_parts (int_le (negsuc 2147483647) low) (int_le high (pos 4294967295)) small in
     let inside = and_parts (int_le low n) (int_le n high) within in
@@ -111,7 +116,8 @@ settable_value t f prop (Thing none) (Crtc index) few small within = absurd (cc)
 small_row : (id : ℕ) → IfSome (property id) (λ p. has_small_range p.range ≡ true)
 small_row id = find-list_all (λ p. has_small_range p.range) (has_id id) properties small_ranges
 
-settable_by_row : (t : Topology) (f : ℕ → Look) (v : Value) (row : Option Property) → t.crtcs ≤ 4 → IfSome row (λ p. has_small_range p.range ≡ true) → is_in_range_of t f v row ≡ true → IsSettableValue v
+settable_by_row : (t : Topology) (f : ℕ → Look) (v : Value) (row : Option Property) → t.crtcs ≤ 4
+    → IfSome row (λ p. has_small_range p.range ≡ true) → is_in_range_of t f v row ≡ true → IsSettableValue v
 settable_by_row t f v None few small within = absurd (cc)
 settable_by_row t f v (Some p) few small within = settable_value t f p.id p.range v few small within
 
@@ -155,7 +161,8 @@ find_own : (id : ℕ) (ps : List Property) → IfSome (find (has_id id) ps) (λ 
 find_own id [] = tt
 find_own id (p ∷ ps) = elim (eqb_tells p.id id) [ inl same ↦ rw same.0 same.1 | inr other ↦ rw other.0 (find_own id ps) ]
 
-small_id_of : (id : ℕ) (row : Option Property) (k : Kind) → IfSome row (λ p. p.id ≡ id) → IfSome row (λ p. is_small_id p ≡ true) → is_of_kind k row ≡ true → id ≤ 19
+small_id_of : (id : ℕ) (row : Option Property) (k : Kind) → IfSome row (λ p. p.id ≡ id) → IfSome row (λ p. is_small_id p ≡ true)
+    → is_of_kind k row ≡ true → id ≤ 19
 small_id_of id None k own small has = absurd (cc)
 small_id_of id (Some p) k own small has = (let h : p.id ≤ 19 = leb-true p.id 19 small in omega arith)
 
@@ -163,7 +170,8 @@ small_id_of id (Some p) k own small has = (let h : p.id ≤ 19 = leb-true p.id 1
 pub small_prop : (t : Topology) (k : Kind) (prop : PropRef) → has_property t k prop ≡ true → prop_of prop ≤ 19
 small_prop t k (Unknown name) has = omega arith
 small_prop t k (Known id) has =
-    small_id_of id (property id) k (find_own id properties) (find-list_all is_small_id (has_id id) properties small_ids) (of_kind-in t.profile id k has)
+    small_id_of id (property id) k (find_own id properties) (find-list_all is_small_id (has_id id) properties small_ids)
+    (of_kind-in t.profile id k has)
 
 no_encoder_of : (row : Option Property) → IfSome row (λ p. has_no_encoder p ≡ true) → is_of_kind kind.Enc row ≡ true → ⊥
 no_encoder_of None h has = cc
@@ -174,7 +182,8 @@ no_encoder t (Unknown name) has = cc
 no_encoder t (Known id) has =
     no_encoder_of (property id) (find-list_all has_no_encoder (has_id id) properties no_encoders) (of_kind-in t.profile id kind.Enc has)
 
-placed : (t : Topology) (k : Kind) (index : ℕ) (prop : PropRef) → HasFew t → exists t k index ≡ true → has_property t k prop ≡ true → HasPlace k index
+placed : (t : Topology) (k : Kind) (index : ℕ) (prop : PropRef) → HasFew t → exists t k index ≡ true → has_property t k prop ≡ true
+    → HasPlace k index
 placed t kind.Crtc index prop few is has = omega (arith, ltb-true index t.crtcs is)
 placed t kind.Plane index prop few is has = omega (arith, ltb-true index (length t.planes) is)
 placed t kind.Conn index prop few is has = omega (arith, ltb-true index (length t.conns) is)
@@ -191,5 +200,6 @@ allowed_settable t f a limits h =
       value = settable_by_row t f a.value (property (prop_of a.prop)) few.crtcs (small_row (prop_of a.prop)) h.value;
     }
 
-pub all_settable : (t : Topology) (f : ℕ → Look) (assigns : List Assign) → keeps_limits t ≡ true → All (IsAllowed t f) assigns → All IsSettable assigns
+pub all_settable : (t : Topology) (f : ℕ → Look) (assigns : List Assign) → keeps_limits t ≡ true → All (IsAllowed t f) assigns
+    → All IsSettable assigns
 all_settable t f assigns limits h = All-weaker (IsAllowed t f) IsSettable (λ a. allowed_settable t f a limits) assigns h

@@ -49,7 +49,13 @@ commands flags plane =
     ∷ []
 
 abbrev pub script : ℕ → ℕ → Script
-script flags plane = record { version = 1; topology = device; names = codes "b" ∷ codes "f" ∷ codes "m" ∷ []; clients = commands flags plane ∷ [] }
+script flags plane = record {
+  version = 1;
+  topology = device;
+  names = codes "b" ∷ codes "f" ∷ codes "m" ∷ [];
+  clients = commands flags plane
+      ∷ [];
+}
 
 abbrev pub head : List ℕ
 head = codes "kms 1\ncrtcs 1\nplane primary 0 XR24\nconn 0\n"

@@ -24,13 +24,16 @@ use Rattle.kms_model.specs.Firsts.{or_else}
 use Rattle.kms_model.specs.Request.Lookups.{label_of, look_up, lookups}
 use Rattle.kms_model.specs.Device.Objects.{ids_of}
 use Rattle.kms_model.specs.Device.Properties.{Property, property}
-use Rattle.kms_model.specs.Request.Refusals.{own_refusal, assign_refusal, assigns_refusal, early_refusal, is_in_range, is_in_range_of, takes}
+use Rattle.kms_model.specs.Request.Refusals.{own_refusal, assign_refusal, assigns_refusal, early_refusal, is_in_range, is_in_range_of}
+use Rattle.kms_model.specs.Request.Refusals.{takes}
 use Rattle.kms_model.specs.Request.Resolves.{IsResolved}
 use Rattle.kms_model.specs.Request.SameLooks.{TellsLabel, TellsLabels}
-use Rattle.kms_model.specs.Request.Sets.{fb_of_look, fb_value, fence_of_look, gamma_of_look, gamma_value, in_fence, in_fences, last_sets, look_in, mode_of_look, mode_value, obj_id, set_of}
+use Rattle.kms_model.specs.Request.Sets.{fb_of_look, fb_value, fence_of_look, gamma_of_look, gamma_value, in_fence, in_fences, last_sets}
+use Rattle.kms_model.specs.Request.Sets.{look_in, mode_of_look, mode_value, obj_id, set_of}
 use Rattle.kms_model.specs.Request.Touched.{last_value, value_if}
 
-range-same : (t : Topology) (f g : ℕ → Look) (prop : ℕ) (range : Range) (v : Value) → TellsLabel f g v → is_in_range t f prop range v ≡ is_in_range t g prop range v
+range-same : (t : Topology) (f g : ℕ → Look) (prop : ℕ) (range : Range) (v : Value) → TellsLabel f g v → is_in_range t f prop range v
+    ≡ is_in_range t g prop range v
 range-same t f g prop (Numbers low high) (Num n) same = refl
 range-same t f g prop (Numbers low high) (Named label) same = refl
 range-same t f g prop (Numbers low high) (New label) same = refl
@@ -44,15 +47,18 @@ range-same t f g prop (Thing none) (Named label) same = ap (takes prop) same
 range-same t f g prop (Thing none) (New label) same = refl
 range-same t f g prop (Thing none) (Crtc index) same = refl
 
-row-same : (t : Topology) (f g : ℕ → Look) (v : Value) (row : Option Property) → TellsLabel f g v → is_in_range_of t f v row ≡ is_in_range_of t g v row
+row-same : (t : Topology) (f g : ℕ → Look) (v : Value) (row : Option Property) → TellsLabel f g v → is_in_range_of t f v row
+    ≡ is_in_range_of t g v row
 row-same t f g v None same = refl
 row-same t f g v (Some p) same = range-same t f g p.id p.range v same
 
-assign-same : (t : Topology) (f g : ℕ → Look) (earlier : List Assign) (a : Assign) → TellsLabel f g a.value → assign_refusal t f earlier a ≡ assign_refusal t g earlier a
+assign-same : (t : Topology) (f g : ℕ → Look) (earlier : List Assign) (a : Assign) → TellsLabel f g a.value → assign_refusal t f earlier a
+    ≡ assign_refusal t g earlier a
 unfolding assign_refusal own_refusal
 assign-same t f g earlier a same = rw (row-same t f g a.value (property (prop_of a.prop)) same) refl
 
-assigns-same : (t : Topology) (f g : ℕ → Look) (earlier assigns : List Assign) → TellsLabels f g assigns → assigns_refusal t f earlier assigns ≡ assigns_refusal t g earlier assigns
+assigns-same : (t : Topology) (f g : ℕ → Look) (earlier assigns : List Assign) → TellsLabels f g assigns
+    → assigns_refusal t f earlier assigns ≡ assigns_refusal t g earlier assigns
 unfolding assigns_refusal
 assigns-same t f g earlier [] same = refl
 assigns-same t f g earlier (a ∷ assigns) same =
@@ -103,10 +109,12 @@ if-has : (P : Value → Type 0) (b : Bool) (v : Value) → P v → IfSome (value
 if-has P true v has = has
 if-has P false v has = tt
 
-last-has : (P : Value → Type 0) (assigns : List Assign) (object prop : ℕ) → All (λ a. P a.value) assigns → IfSome (last_value assigns object prop) P
+last-has : (P : Value → Type 0) (assigns : List Assign) (object prop : ℕ) → All (λ a. P a.value) assigns
+    → IfSome (last_value assigns object prop) P
 last-has P [] object prop all = tt
 last-has P (a ∷ assigns) object prop all =
-    first-has P (last_value assigns object prop) _ (last-has P assigns object prop (All-tail (λ b. P b.value) a assigns all)) (if-has P _ a.value (All-head (λ b. P b.value) a assigns all))
+    first-has P (last_value assigns object prop) _ (last-has P assigns object prop (All-tail (λ b. P b.value) a assigns all))
+    (if-has P _ a.value (All-head (λ b. P b.value) a assigns all))
 
 -- the fence that a value names
 abbrev fence_value : (ℕ → Look) → Value → Option ℕ
@@ -118,22 +126,27 @@ fence-same f g (Named label) same = ap fence_of_look same
 fence-same f g (New label) same = refl
 fence-same f g (Crtc index) same = refl
 
-last_fence-same : (f g : ℕ → Look) (last : Option Value) → IfSome last (TellsLabel f g) → option_and_then (fence_value f) last ≡ option_and_then (fence_value g) last
+last_fence-same : (f g : ℕ → Look) (last : Option Value) → IfSome last (TellsLabel f g) → option_and_then (fence_value f) last
+    ≡ option_and_then (fence_value g) last
 last_fence-same f g None same = refl
 last_fence-same f g (Some v) same = fence-same f g v same
 
-in_fence-same : (f g : ℕ → Look) (assigns : List Assign) (plane : ℕ) → TellsLabels f g assigns → in_fence f assigns plane ≡ in_fence g assigns plane
+in_fence-same : (f g : ℕ → Look) (assigns : List Assign) (plane : ℕ) → TellsLabels f g assigns → in_fence f assigns plane
+    ≡ in_fence g assigns plane
 in_fence-same f g assigns plane same =
     last_fence-same f g (last_value assigns plane IN_FENCE_FD) (last-has (TellsLabel f g) assigns plane IN_FENCE_FD same)
 
-in_fences-same : (t : Topology) (f g : ℕ → Look) (assigns : List Assign) → TellsLabels f g assigns → in_fences t f assigns ≡ in_fences t g assigns
+in_fences-same : (t : Topology) (f g : ℕ → Look) (assigns : List Assign) → TellsLabels f g assigns → in_fences t f assigns
+    ≡ in_fences t g assigns
 unfolding in_fences
 in_fences-same t f g assigns same =
     let each : in_fence f assigns ≡ in_fence g assigns = λ i plane. in_fence-same f g assigns plane same i in
-    let listed : (ℕ → Option ℕ) → List (ObjId × ℕ) = λ fence. filter_map (λ plane. option_map (λ n. (obj_id plane, n)) (fence plane)) (ids_of t Plane) in
+    let listed : (ℕ → Option ℕ) → List (ObjId × ℕ) = λ fence. filter_map (λ plane. option_map (λ n. (obj_id plane, n)) (fence plane))
+    (ids_of t Plane) in
     ap listed each
 
-pub resolved-same : (t : Topology) (f g : ℕ → Look) (r : Request) (resolved : Resolved) → TellsLabels f g r.assigns → IsResolved t f r resolved → IsResolved t g r resolved
+pub resolved-same : (t : Topology) (f g : ℕ → Look) (r : Request) (resolved : Resolved) → TellsLabels f g r.assigns
+    → IsResolved t f r resolved → IsResolved t g r resolved
 resolved-same t f g r resolved same is = record {
   accepted = sym (early-same t f g r same) ∙ is.accepted;
   flags = is.flags;
@@ -149,9 +162,11 @@ listed_look : (f : ℕ → Look) (labels : List ℕ) (label : ℕ) → IsIn labe
 unfolding look_in
 listed_look f [] label is = absurd is
 listed_look f (l ∷ ls) label (inl here) = elim (eqb_tells l label) [ inl is ↦ rw is.0 (ap f is.1) | inr other ↦ absurd (other.1 here) ]
-listed_look f (l ∷ ls) label (inr later) = elim (eqb_tells l label) [ inl is ↦ rw is.0 (ap f is.1) | inr other ↦ rw other.0 (listed_look f ls label later) ]
+listed_look f (l ∷ ls) label (inr later) = elim (eqb_tells l label)
+    [ inl is ↦ rw is.0 (ap f is.1) | inr other ↦ rw other.0 (listed_look f ls label later) ]
 
-tells_first : (f g : ℕ → Look) (v : Value) (labels : List ℕ) → ((label : ℕ) → IsIn label (cons_option (label_of v) labels) → f label ≡ g label) → TellsLabel f g v
+tells_first : (f g : ℕ → Look) (v : Value) (labels : List ℕ)
+    → ((label : ℕ) → IsIn label (cons_option (label_of v) labels) → f label ≡ g label) → TellsLabel f g v
 tells_first f g (Named label) labels same = same label (inl refl)
 tells_first f g (Num n) labels same = tt
 tells_first f g (New label) labels same = tt
@@ -163,7 +178,8 @@ is_later (Num n) labels label is = is
 is_later (New first) labels label is = is
 is_later (Crtc index) labels label is = is
 
-tells_all : (f g : ℕ → Look) (assigns : List Assign) → ((label : ℕ) → IsIn label (filter_map (λ a. label_of a.value) assigns) → f label ≡ g label) → TellsLabels f g assigns
+tells_all : (f g : ℕ → Look) (assigns : List Assign)
+    → ((label : ℕ) → IsIn label (filter_map (λ a. label_of a.value) assigns) → f label ≡ g label) → TellsLabels f g assigns
 tells_all f g [] same = All-nil (λ a. TellsLabel f g a.value)
 tells_all f g (a ∷ assigns) same =
     let labels : List ℕ = filter_map (λ b. label_of b.value) assigns in
@@ -172,4 +188,5 @@ tells_all f g (a ∷ assigns) same =
 
 pub world_tells : (w : World) (r : Request) → TellsLabels (look_in (lookups w r)) (look_up w) r.assigns
 world_tells w r =
-    tells_all (look_in (lookups w r)) (look_up w) r.assigns (λ label is. listed_look (look_up w) (filter_map (λ a. label_of a.value) r.assigns) label is)
+    tells_all (look_in (lookups w r)) (look_up w) r.assigns
+    (λ label is. listed_look (look_up w) (filter_map (λ a. label_of a.value) r.assigns) label is)

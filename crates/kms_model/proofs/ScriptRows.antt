@@ -31,7 +31,8 @@ abbrev device : Topology
 device = record {
   profile = 1;
   crtcs = 2;
-  planes = record { kind = 1; crtcs = 1; formats = 5 } ∷ record { kind = 0; crtcs = 3; formats = 7 } ∷ record { kind = 2; crtcs = 2; formats = 2 } ∷ [];
+  planes = record { kind = 1; crtcs = 1; formats = 5 } ∷ record { kind = 0; crtcs = 3; formats = 7 }
+      ∷ record { kind = 2; crtcs = 2; formats = 2 } ∷ [];
   conns = 1 ∷ 3 ∷ [];
 }
 
@@ -73,7 +74,8 @@ abbrev script : Script
 script = record {
   version = 1;
   topology = device;
-  names = codes "b" ∷ codes "c_1" ∷ codes "ramp" ∷ codes "p" ∷ codes "f" ∷ codes "later" ∷ codes "m" ∷ codes "blob" ∷ codes "abcdefghijklmno1" ∷ codes "gamma_lut" ∷ codes "never" ∷ codes "o" ∷ [];
+  names = codes "b" ∷ codes "c_1" ∷ codes "ramp" ∷ codes "p" ∷ codes "f" ∷ codes "later" ∷ codes "m" ∷ codes "blob"
+      ∷ codes "abcdefghijklmno1" ∷ codes "gamma_lut" ∷ codes "never" ∷ codes "o" ∷ [];
   clients = first ∷ [] ∷ second ∷ [];
 }
 
@@ -168,7 +170,8 @@ faults =
     -- bytes are told before cut
     ∷ faulty (lit ++ 9 ∷ []) 6 Bytes
     -- ninth connector
-    ∷ faulty (codes "kms 1\ncrtcs 1\nplane primary 0 XR24\nconn 0\nconn 0\nconn 0\nconn 0\nconn 0\nconn 0\nconn 0\nconn 0\nconn 0\n") 12 Limit
+    ∷ faulty (codes "kms 1\ncrtcs 1\nplane primary 0 XR24\nconn 0\nconn 0\nconn 0\nconn 0\nconn 0\nconn 0\nconn 0\nconn 0\nconn 0\n") 12
+    Limit
     ∷ []
 
 pub each_text_has_its_first_fault : map (λ f. input f.text) faults ≡ map (λ f. Err f.fault) faults
@@ -182,6 +185,7 @@ unfolding on_scripts
 each_integer_has_one_spelling = refl
 
 -- no capital digit, no zero in front, and at most eight digits
-pub flags_have_one_spelling : map hex (codes "0x0F" ∷ codes "0x00" ∷ codes "0x100000000" ∷ codes "0xffffffff" ∷ []) ≡ None ∷ None ∷ None ∷ Some 4294967295 ∷ []
+pub flags_have_one_spelling : map hex (codes "0x0F" ∷ codes "0x00" ∷ codes "0x100000000" ∷ codes "0xffffffff" ∷ []) ≡ None ∷ None ∷ None
+    ∷ Some 4294967295 ∷ []
 unfolding on_scripts
 flags_have_one_spelling = refl

@@ -70,7 +70,8 @@ find-passes {A} q (x ∷ xs) =
       | inr other ↦ rw other (find-passes q xs)
     ]
 
-row_means : (kind : Kind) (prop : ℕ) (value : SetValue) (row : Option Property) → IfSome row (λ p. row_takes kind value p ≡ true) → IfSome row (λ p. has_id prop p ≡ true)
+row_means : (kind : Kind) (prop : ℕ) (value : SetValue) (row : Option Property) → IfSome row (λ p. row_takes kind value p ≡ true)
+    → IfSome row (λ p. has_id prop p ≡ true)
     → (is_of_kind kind row && (not (is_immutable_row row) && is_among_row row value)) ≡ true → takes kind prop value ≡ true
 row_means kind prop value None good found h = absurd (false≢true h)
 row_means kind prop value (Some p) good found h =
@@ -82,4 +83,5 @@ row_means kind prop value (Some p) good found h =
 -- which property may be set to a kind of value
 pub may_set-takes : (kind : Kind) (prop : ℕ) (value : SetValue) → may_set kind prop value ≡ true → takes kind prop value ≡ true
 may_set-takes kind prop value h =
-    row_means kind prop value (property prop) (find-list_all (row_takes kind value) (has_id prop) properties (rows_take kind value)) (find-passes (has_id prop) properties) h
+    row_means kind prop value (property prop) (find-list_all (row_takes kind value) (has_id prop) properties (rows_take kind value))
+    (find-passes (has_id prop) properties) h

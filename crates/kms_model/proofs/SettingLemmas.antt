@@ -25,8 +25,10 @@ use Rattle.kms_model.proofs.SetLemmas.{find-passes}
 
 -- which properties have which kind of values
 abbrev has_shape : ℕ → Range → Bool
-has_shape prop (Numbers low high) = not (prop == FB_ID) && (not (prop == MODE_ID) && (not (prop == GAMMA_LUT) && (not (prop == CRTC_ID) && is_kept prop)))
-has_shape prop (Thing none) = (prop == FB_ID) || ((prop == MODE_ID) || ((prop == GAMMA_LUT) || (not (prop == CRTC_ID) && not (is_kept prop))))
+has_shape prop (Numbers low high) = not (prop == FB_ID)
+    && (not (prop == MODE_ID) && (not (prop == GAMMA_LUT) && (not (prop == CRTC_ID) && is_kept prop)))
+has_shape prop (Thing none) = (prop == FB_ID) || ((prop == MODE_ID)
+    || ((prop == GAMMA_LUT) || (not (prop == CRTC_ID) && not (is_kept prop))))
 has_shape prop CrtcName = prop == CRTC_ID
 
 shapes : list_all (λ p. has_shape p.id p.range) properties ≡ true
@@ -37,7 +39,8 @@ not-is true h = sym h
 not-is false h = refl
 
 -- a value of a range is set to one among the range's
-among : (t : Topology) (f : ℕ → Look) (prop : ℕ) (range : Range) (v : Value) → has_shape prop range ≡ true → is_in_range t f prop range v ≡ true → range_takes prop range (set_value f prop v) ≡ true
+among : (t : Topology) (f : ℕ → Look) (prop : ℕ) (range : Range) (v : Value) → has_shape prop range ≡ true → is_in_range t f prop range v
+    ≡ true → range_takes prop range (set_value f prop v) ≡ true
 among t f prop (Numbers low high) (Num n) shape within =
     let a = and_parts (not (prop == FB_ID)) _ shape in
     let b = and_parts (not (prop == MODE_ID)) _ a.1 in
@@ -62,7 +65,8 @@ among t f prop (Thing none) v shape within = elim (cases_Bool (prop == FB_ID)) [
   ]
 ]
 
-among_row : (t : Topology) (f : ℕ → Look) (prop : ℕ) (v : Value) (row : Option Property) → IfSome row (λ p. has_shape p.id p.range ≡ true) → IfSome row (λ p. has_id prop p ≡ true) → is_in_range_of t f v row ≡ true → is_among_row row (set_value f prop v) ≡ true
+among_row : (t : Topology) (f : ℕ → Look) (prop : ℕ) (v : Value) (row : Option Property) → IfSome row (λ p. has_shape p.id p.range ≡ true)
+    → IfSome row (λ p. has_id prop p ≡ true) → is_in_range_of t f v row ≡ true → is_among_row row (set_value f prop v) ≡ true
 among_row t f prop v None shape found within = absurd (cc)
 among_row t f prop v (Some p) shape found within =
     let P : ℕ → Type 0 = λ id. range_takes p.id p.range (set_value f id v) ≡ true in
@@ -73,9 +77,11 @@ has_row t k (Known id) has = of_kind-in t.profile id k has
 has_row t k (Unknown name) has = absurd (cc)
 
 -- an allowed assignment sets a property of its object's kind that may be set, to one of its values
-pub may_set-allowed : (t : Topology) (f : ℕ → Look) (a : Assign) → IsAllowed t f a → may_set a.kind (prop_of a.prop) (set_value f (prop_of a.prop) a.value) ≡ true
+pub may_set-allowed : (t : Topology) (f : ℕ → Look) (a : Assign) → IsAllowed t f a
+    → may_set a.kind (prop_of a.prop) (set_value f (prop_of a.prop) a.value) ≡ true
 may_set-allowed t f a allowed =
     let prop = prop_of a.prop in
     and_from (is_of_kind a.kind (property prop)) _ (has_row t a.kind a.prop allowed.has)
     (and_from (not (is_immutable_row (property prop))) _ (not_from_false (is_immutable_row (property prop)) allowed.mutable)
-    (among_row t f prop a.value (property prop) (find-list_all (λ p. has_shape p.id p.range) (has_id prop) properties shapes) (find-passes (has_id prop) properties) allowed.value))
+    (among_row t f prop a.value (property prop) (find-list_all (λ p. has_shape p.id p.range) (has_id prop) properties shapes)
+    (find-passes (has_id prop) properties) allowed.value))

@@ -70,7 +70,8 @@ short_client_sleeps_and_wakes = refl
 
 -- The longer script from the start on has another history: the second client's requests are done before the CRTC is lit.
 pub longer_script_from_the_start_is_another :
-    bytes_eq (report_of_script plain (extended_after with_short_client (finished_within with_short_client 64 []))) (slept_report with_short_client)
+    bytes_eq (report_of_script plain (extended_after with_short_client (finished_within with_short_client 64 [])))
+    (slept_report with_short_client)
     ≡ false
 unfolding on_suspending
 longer_script_from_the_start_is_another = refl
@@ -116,7 +117,8 @@ keeps_behind s h longer = keeps_promises s h longer (finished_within longer 64 h
 abbrev keeps_after : Script → List Step → List Bool
 keeps_after s h = keeps_behind s h (extended_after s h)
 
-pub short_client_keeps_promises : keeps_after with_short_client (finished_within with_short_client 64 []) ≡ true ∷ true ∷ true ∷ true ∷ true ∷ []
+pub short_client_keeps_promises : keeps_after with_short_client (finished_within with_short_client 64 []) ≡ true ∷ true ∷ true ∷ true ∷ true
+    ∷ []
 unfolding on_suspending
 short_client_keeps_promises = refl
 

@@ -1,5 +1,6 @@
 -- Which place of a framebuffer a pixel of a plane shows, along one axis and along both.
-use Rattle.std.proofs.Common.{◌≡◌, ◌<◌, ◌≤◌, ℕ, ◌+◌, ◌*◌, ◌/◌, ◌%◌, Bool, true, false, Option, None, ℤ, pos, negsuc, ◌+ℤ◌, ◌-ℤ◌, ◌≤ℤ◌, ◌<ℤ◌, ◌==◌, refl, sym, ap, ◌∙◌, arith}
+use Rattle.std.proofs.Common.{◌≡◌, ◌<◌, ◌≤◌, ℕ, ◌+◌, ◌*◌, ◌/◌, ◌%◌, Bool, true, false, Option, None, ℤ, pos, negsuc, ◌+ℤ◌, ◌-ℤ◌, ◌≤ℤ◌, ◌<ℤ◌}
+use Rattle.std.proofs.Common.{◌==◌, refl, sym, ap, ◌∙◌, arith}
 use Rattle.std.specs.Prelude.{◌&&◌, int_le, int_lt, nat_le, not}
 use Rattle.std.proofs.Math.Nat.{div-lt_iff_lt-mul, mul-add-div, mul-div_cancel, mul-lt-mul_of_pos_right}
 use Rattle.std.proofs.lemmas.Bool.{and_parts, eqb-true, leb-true}
@@ -53,14 +54,16 @@ place-unscaled n i w long some same whole =
     ∙ mul-add-div {m = 65536} (omega arith) (n / 65536 + i) 32768
     ∙ omega arith
 
-pub unscaled-along : (src long dst wide : ℤ) (at : ℕ) → pos 0 ≤ℤ src → is_whole src ≡ true → (natural long == 65536 * natural wide) ≡ true → IsAt dst wide at
+pub unscaled-along : (src long dst wide : ℤ) (at : ℕ) → pos 0 ≤ℤ src → is_whole src ≡ true → (natural long == 65536 * natural wide) ≡ true
+    → IsAt dst wide at
     → source_at src long dst wide at ≡ unscaled_place src dst at
 unscaled-along (negsuc n) long dst wide at low whole same is = absurd (omega (arith, ints, low))
 unscaled-along (pos n) long dst wide at low whole same is =
     let b : IsBehind dst wide at = behind dst wide at is in
     let i : ℕ = natural (pos at -ℤ dst) in
     let there : (pos (n / 65536) +ℤ pos at) -ℤ dst ≡ pos (n / 65536 + i) = omega (arith, ints, b.offset) in
-    place-unscaled n i (natural wide) (natural long) (omega (arith, b.within)) (eqb-true (natural long) (65536 * natural wide) same) (eqb-true (n % 65536) 0 whole) ∙ sym (ap natural there)
+    place-unscaled n i (natural wide) (natural long) (omega (arith, b.within)) (eqb-true (natural long) (65536 * natural wide) same)
+    (eqb-true (n % 65536) 0 whole) ∙ sym (ap natural there)
 
 -- what profile 1 asks of a plane on a CRTC
 record IsPlain (s : PlaneState) : Type 0 where
@@ -105,7 +108,8 @@ covers-at r x y covered =
     lt-is a b e = grind (arith, nat_tests, ints)
 
 -- A plane that profile 1 accepts shows the places of a plane that is not scaled.
-pub shows_unscaled : (mode : Option Mode) (s : PlaneState) (x y : ℕ) → IsPlaneInRange s → (s.crtc == 0) ≡ false → shown_refusal 1 mode s ≡ None → covers s.dst x y ≡ true → ShowsUnscaled s x y
+pub shows_unscaled : (mode : Option Mode) (s : PlaneState) (x y : ℕ) → IsPlaneInRange s → (s.crtc == 0) ≡ false → shown_refusal 1 mode s
+    ≡ None → covers s.dst x y ≡ true → ShowsUnscaled s x y
 shows_unscaled mode s x y range on none covered =
     let p : IsPlain s = plain mode s on none in
     let c : CoversAt s.dst x y = covers-at s.dst x y covered in
@@ -124,7 +128,8 @@ middle-within i w long less some =
     (div-lt_iff_lt-mul {k = 2 * w} {x = (2 * i + 1) * long} {y = long} (omega (arith, less))).1 swapped
 
 -- a place that a pixel shows is in the framebuffer, of which the source is a part
-pub source-within : (src long dst wide : ℤ) (side at : ℕ) → pos 0 ≤ℤ src → pos 0 ≤ℤ long → is_scaled_little long wide ≡ true → int_le (src +ℤ long) (pos (65536 * side)) ≡ true → IsAt dst wide at
+pub source-within : (src long dst wide : ℤ) (side at : ℕ) → pos 0 ≤ℤ src → pos 0 ≤ℤ long → is_scaled_little long wide ≡ true
+    → int_le (src +ℤ long) (pos (65536 * side)) ≡ true → IsAt dst wide at
     → source_at src long dst wide at < side
 source-within (negsuc n) long dst wide side at low low' little fits is = absurd (omega (arith, ints, low))
 source-within (pos n) (negsuc l) dst wide side at low low' little fits is = absurd (omega (arith, ints, low'))

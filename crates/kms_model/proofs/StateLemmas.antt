@@ -19,7 +19,8 @@ use Rattle.kms_model.specs.Device.States.{natural, mode_at, crtc_at, plane_at}
 use Rattle.kms_model.specs.Device.Properties.{Property}
 use Rattle.kms_model.specs.Device.Sound.{IsBetween, IsCrtcOrNone, IsPlaneInRange, IsSound, empty_request, kept_properties, is_held}
 use Rattle.kms_model.specs.Request.Touched.{asks_signal}
-use Rattle.kms_model.specs.Request.Checks.{is_active, with_ids, crtc_refusal, crtc_refusal_at, plane_refusal_at, event_refusal, late_refusal}
+use Rattle.kms_model.specs.Request.Checks.{is_active, with_ids, crtc_refusal, crtc_refusal_at, plane_refusal_at, event_refusal}
+use Rattle.kms_model.specs.Request.Checks.{late_refusal}
 use Rattle.kms_model.proofs.Items.{IsIn, ids-has, or_else-none, number_if-none, first_some-at}
 use Rattle.kms_model.proofs.SoundKept.{late-empty}
 use Rattle.kms_model.proofs.HeldValues.{ArePlainHeld, IsPlain, plain_held-from}
@@ -36,7 +37,8 @@ between-held low high z held =
     record { low = int_le-le low z both.0; high = int_le-le z high both.1 }
 
 pub natural-held : (high : ℕ) (z : ℤ) → (int_le (pos 0) z && int_le z (pos high)) ≡ true → natural z ≤ high
-natural-held high (pos n) held = let b : IsBetween (pos 0) (pos high) (pos n) = between-held (pos 0) (pos high) (pos n) held in omega (arith, ints, b.high)
+natural-held high (pos n) held = let b : IsBetween (pos 0) (pos high) (pos n) = between-held (pos 0) (pos high) (pos n) held
+    in omega (arith, ints, b.high)
 natural-held high (negsuc n) held = omega arith
 
 -- the numbers of a plane's state
@@ -62,15 +64,18 @@ plane_in_range t things values plane all is =
     }
 
 -- the same in a sound world, by the index of the object
-pub sound-plane_in_range : (t : Topology) (w : World) (index : ℕ) → IsSound t w → index < count_of t kind.Plane → IsPlaneInRange (plane_at w.things w.values (object_id kind.Plane index))
+pub sound-plane_in_range : (t : Topology) (w : World) (index : ℕ) → IsSound t w → index < count_of t kind.Plane
+    → IsPlaneInRange (plane_at w.things w.values (object_id kind.Plane index))
 sound-plane_in_range t w index sound within = plane_in_range t w.things w.values (object_id kind.Plane index)
     (plain_held-from t w.things w.values sound.held) (ids-has t kind.Plane index within)
 
-pub sound-plane_crtc : (t : Topology) (w : World) (index : ℕ) → IsSound t w → index < count_of t kind.Plane → IsCrtcOrNone t (crtc_at w.values (object_id kind.Plane index))
+pub sound-plane_crtc : (t : Topology) (w : World) (index : ℕ) → IsSound t w → index < count_of t kind.Plane
+    → IsCrtcOrNone t (crtc_at w.values (object_id kind.Plane index))
 sound-plane_crtc t w index sound within = plane_crtc-held t w.things w.values (object_id kind.Plane index)
     (plain_held-from t w.things w.values sound.held) (ids-has t kind.Plane index within)
 
-pub sound-conn_crtc : (t : Topology) (w : World) (index : ℕ) → IsSound t w → index < count_of t kind.Conn → IsCrtcOrNone t (crtc_at w.values (object_id kind.Conn index))
+pub sound-conn_crtc : (t : Topology) (w : World) (index : ℕ) → IsSound t w → index < count_of t kind.Conn
+    → IsCrtcOrNone t (crtc_at w.values (object_id kind.Conn index))
 sound-conn_crtc t w index sound within = conn_crtc-held t w.things w.values (object_id kind.Conn index)
     (plain_held-from t w.things w.values sound.held) (ids-has t kind.Conn index within)
 
@@ -80,14 +85,20 @@ on-mode true None none on = absurd cc
 on-mode false mode none on = absurd cc
 
 crtc-mode : (asks was on : Bool) (mode : Option Mode) → crtc_refusal asks was on mode ≡ None → on ≡ true → is_some mode ≡ true
-crtc-mode asks was on mode none is = on-mode on mode (number_if-none 16 _ (or_else-none (number_if 16 (on && is_none mode)) _ none).first_none) is
+crtc-mode asks was on mode none is = on-mode on mode
+    (number_if-none 16 _ (or_else-none (number_if 16 (on && is_none mode)) _ none).first_none) is
 
 -- a CRTC that is on has a mode
-pub sound-mode : (t : Topology) (w : World) (index : ℕ) → IsSound t w → index < count_of t kind.Crtc → is_active w.values (object_id kind.Crtc index) ≡ true → is_some (mode_at w.things w.values (object_id kind.Crtc index)) ≡ true
+pub sound-mode : (t : Topology) (w : World) (index : ℕ) → IsSound t w → index < count_of t kind.Crtc
+    → is_active w.values (object_id kind.Crtc index) ≡ true → is_some (mode_at w.things w.values (object_id kind.Crtc index)) ≡ true
 unfolding late_refusal
 sound-mode t w index sound within on =
     let events = or_else-none (event_refusal t w.values w.values empty_request) _ (late-empty t w sound.accepted) in
-    let planes = or_else-none (first_some (plane_refusal_at w.things w.values w.values) (with_ids (first_id kind.Plane) t.planes)) _ events.second_none in
-    let crtcs = or_else-none (first_some (crtc_refusal_at w.things w.values w.values empty_request) (ids_of t kind.Crtc)) _ planes.second_none in
-    crtc-mode (asks_signal w.values w.values empty_request (object_id kind.Crtc index)) (is_active w.values (object_id kind.Crtc index)) (is_active w.values (object_id kind.Crtc index)) (mode_at w.things w.values (object_id kind.Crtc index))
-    (first_some-at (crtc_refusal_at w.things w.values w.values empty_request) (ids_of t kind.Crtc) (object_id kind.Crtc index) crtcs.first_none (ids-has t kind.Crtc index within)) on
+    let planes = or_else-none (first_some (plane_refusal_at w.things w.values w.values) (with_ids (first_id kind.Plane) t.planes)) _
+    events.second_none in
+    let crtcs = or_else-none (first_some (crtc_refusal_at w.things w.values w.values empty_request) (ids_of t kind.Crtc)) _
+    planes.second_none in
+    crtc-mode (asks_signal w.values w.values empty_request (object_id kind.Crtc index)) (is_active w.values (object_id kind.Crtc index))
+    (is_active w.values (object_id kind.Crtc index)) (mode_at w.things w.values (object_id kind.Crtc index))
+    (first_some-at (crtc_refusal_at w.things w.values w.values empty_request) (ids_of t kind.Crtc) (object_id kind.Crtc index)
+    crtcs.first_none (ids-has t kind.Crtc index within)) on

@@ -20,7 +20,8 @@ use Rattle.kms_model.specs.Device.ModeBytes.{mode_bytes}
 use Rattle.kms_model.specs.Device.Modes.{plain_mode}
 use Rattle.kms_model.specs.Device.Serial.{Entry, serial}
 use Rattle.kms_model.specs.Device.World.{start}
-use Rattle.kms_model.specs.Order.Suspending.{closed_object, conn_back, crtc_back, has_crtc_at, has_mode_at, indices_where, modeset, off_request, on_request, open_mode_label, plane_back}
+use Rattle.kms_model.specs.Order.Suspending.{closed_object, conn_back, crtc_back, has_crtc_at, has_mode_at, indices_where, modeset}
+use Rattle.kms_model.specs.Order.Suspending.{off_request, on_request, open_mode_label, plane_back}
 use Rattle.kms_model.specs.Report.TextLines.{line}
 use Rattle.kms_model.specs.Request.Apply.{after}
 use Rattle.kms_model.specs.Script.Generated.{framebuffer_f, generated, generated_device, mode_m}

@@ -1,5 +1,6 @@
 -- Things by their ids and labels, as they are made and closed.
-use Rattle.std.proofs.Common.{◌≡◌, ◌≢◌, ℕ, ◌+◌, ◌<◌, ◌≤◌, Bool, true, false, List, [], ◌∷◌, ◌++◌, length, Option, Some, inl, inr, arith, refl, sym, ap, ◌∙◌}
+use Rattle.std.proofs.Common.{◌≡◌, ◌≢◌, ℕ, ◌+◌, ◌<◌, ◌≤◌, Bool, true, false, List, [], ◌∷◌, ◌++◌, length, Option, Some, inl, inr, arith}
+use Rattle.std.proofs.Common.{refl, sym, ap, ◌∙◌}
 use Rattle.std.specs.Prelude.{◌==◌, ℤ, pos, if◌then◌else◌, find}
 use Rattle.std.specs.Ordering.{int_eq}
 use Rattle.std.proofs.lemmas.Bool.{cases_Bool, cond-true, cond-false, eq-eqb, eqb-true, false_from_ne_true, false≢true}
@@ -41,7 +42,8 @@ same_test m n =
     ]
 
 -- a thing is found by its id
-pub thing_numbered-id : (n : ℕ) (things : List Thing) (t : Thing) → AreNumbered n things → IsIn t things → thing_numbered things (pos t.id) ≡ Some t
+pub thing_numbered-id : (n : ℕ) (things : List Thing) (t : Thing) → AreNumbered n things → IsIn t things → thing_numbered things (pos t.id)
+    ≡ Some t
 thing_numbered-id n [] t numbered is = absurd is
 thing_numbered-id n (u ∷ us) t numbered (inl same) =
     let e : int_eq (pos u.id) (pos t.id) ≡ true = rw same (int_eq-same t.id) in
@@ -49,7 +51,8 @@ thing_numbered-id n (u ∷ us) t numbered (inl same) =
 thing_numbered-id n (u ∷ us) t numbered (inr rest) =
     let later : IsNumberedIn (n + 1) us t.id = ids-numbered (n + 1) us t numbered.1 rest in
     let first : u.id ≡ n = numbered.0 in
-    cond-false (int_eq (pos u.id) (pos t.id)) (Some u) (thing_numbered us (pos t.id)) (int_eq-other u.id t.id (λ e. omega (arith, e, first, later.low)))
+    cond-false (int_eq (pos u.id) (pos t.id)) (Some u) (thing_numbered us (pos t.id))
+    (int_eq-other u.id t.id (λ e. omega (arith, e, first, later.low)))
     ∙ thing_numbered-id (n + 1) us t numbered.1 rest
 
 -- what a search finds is an item
@@ -66,27 +69,32 @@ pub find-holds : {A : Type 0} (p : A → Bool) (xs : List A) (x : A) → find p 
 find-holds p [] x e = absurd cc
 find-holds {A} p (y ∷ ys) x e =
     elim (cases_Bool (p y)) [
-      | inl is ↦ (let same : Some y ≡ Some x = sym (cond-true (p y) (Some y) (find p ys) is) ∙ e in let yx : y ≡ x = cc in ap p (sym yx) ∙ is)
+      | inl is ↦ (let same : Some y ≡ Some x = sym (cond-true (p y) (Some y) (find p ys) is) ∙ e in let yx : y ≡ x = cc
+          in ap p (sym yx) ∙ is)
       | inr other ↦ find-holds p ys x (sym (cond-false (p y) (Some y) (find p ys) other) ∙ e)
     ]
 
 same_find : (things : List Thing) (id : ℕ) → thing_numbered things (pos id) ≡ thing_with_id things id
 same_find [] id = refl
-same_find (u ∷ us) id = ap (λ b. if b then Some u else thing_numbered us (pos id)) (same_test u.id id) ∙ ap (λ o. if u.id == id then Some u else o) (same_find us id)
+same_find (u ∷ us) id = ap (λ b. if b then Some u else thing_numbered us (pos id)) (same_test u.id id) ∙ ap
+    (λ o. if u.id == id then Some u else o) (same_find us id)
 
 -- what a property's value finds is found by its id
-pub found_with_id : (things : List Thing) (number : ℤ) (t : Thing) → thing_numbered things number ≡ Some t → thing_with_id things t.id ≡ Some t
+pub found_with_id : (things : List Thing) (number : ℤ) (t : Thing) → thing_numbered things number ≡ Some t → thing_with_id things t.id
+    ≡ Some t
 found_with_id things number t found =
     let is : pos t.id ≡ number = (Decides-int_eq (pos t.id) number).0 (find-holds (λ u. int_eq (pos u.id) number) things t found) in
     sym (same_find things t.id) ∙ ap (thing_numbered things) is ∙ found
 
 -- the thing under a label is found by its id
-pub thing_numbered-labelled : (things : List Thing) (label : ℕ) (t : Thing) → AreNumbered 1000 things → thing_labelled things label ≡ Some t → thing_numbered things (pos t.id) ≡ Some t
+pub thing_numbered-labelled : (things : List Thing) (label : ℕ) (t : Thing) → AreNumbered 1000 things → thing_labelled things label ≡ Some t
+    → thing_numbered things (pos t.id) ≡ Some t
 thing_numbered-labelled things label t numbered found =
     thing_numbered-id 1000 things t numbered (find-in (λ u. u.label == label) things t found)
 
 -- a thing more, with the next id
-pub numbered-push : (n : ℕ) (things : List Thing) (t : Thing) → AreNumbered n things → t.id ≡ n + length things → AreNumbered n (things ++ t ∷ [])
+pub numbered-push : (n : ℕ) (things : List Thing) (t : Thing) → AreNumbered n things → t.id ≡ n + length things
+    → AreNumbered n (things ++ t ∷ [])
 numbered-push n [] t numbered next = (next ∙ omega arith, tt)
 numbered-push n (u ∷ us) t numbered next = (numbered.0, numbered-push (n + 1) us t numbered.1 (next ∙ omega arith))
 
@@ -111,17 +119,21 @@ pub record IsSeenAlike (xs ys : List Thing) (number : ℤ) : Type 0 where
 pub seen-same : (xs ys : List Thing) (number : ℤ) → thing_numbered xs number ≡ thing_numbered ys number → IsSeenAlike xs ys number
 seen-same xs ys number same = record { fb = ap framebuffer_of same; mode = ap mode_of same; gamma = ap gamma_of same }
 
-module _ {A : Type 0} (of_thing : Option Thing → Option A) (of_content : Content → Option A) (reads : (t : Thing) → of_thing (Some t) ≡ of_content t.content) where
-  closed-cond : (b : Bool) (t u : Thing) (xs ys : List Thing) (number : ℤ) → t.content ≡ u.content → of_thing (thing_numbered xs number) ≡ of_thing (thing_numbered ys number)
+module _ {A : Type 0} (of_thing : Option Thing → Option A) (of_content : Content → Option A)
+    (reads : (t : Thing) → of_thing (Some t) ≡ of_content t.content) where
+  closed-cond : (b : Bool) (t u : Thing) (xs ys : List Thing) (number : ℤ) → t.content ≡ u.content → of_thing (thing_numbered xs number)
+      ≡ of_thing (thing_numbered ys number)
       → of_thing (if b then Some t else thing_numbered xs number) ≡ of_thing (if b then Some u else thing_numbered ys number)
   closed-cond true t u xs ys number content rest = reads t ∙ ap of_content content ∙ sym (reads u)
   closed-cond false t u xs ys number content rest = rest
 
-  closed-reads : (things : List Thing) (id : ℕ) (number : ℤ) → of_thing (thing_numbered things number) ≡ of_thing (thing_numbered (closed_in things id) number)
+  closed-reads : (things : List Thing) (id : ℕ) (number : ℤ) → of_thing (thing_numbered things number)
+      ≡ of_thing (thing_numbered (closed_in things id) number)
   closed-reads [] id number = refl
   closed-reads (t ∷ ts) id number =
       let same : (closed_if id t).id ≡ t.id = closed_id id t in
-      rw same (closed-cond (int_eq (pos t.id) number) t (closed_if id t) ts (closed_in ts id) number (sym (closed_content id t)) (closed-reads ts id number))
+      rw same (closed-cond (int_eq (pos t.id) number) t (closed_if id t) ts (closed_in ts id) number (sym (closed_content id t))
+      (closed-reads ts id number))
 
 -- closing a thing changes nothing that is seen of things
 pub seen-closed : (things : List Thing) (id : ℕ) (number : ℤ) → IsSeenAlike things (closed_in things id) number
@@ -131,7 +143,8 @@ seen-closed things id number = record {
   gamma = closed-reads gamma_of gamma_in (λ t. refl) things id number;
 }
 
-find-push : (things : List Thing) (t : Thing) (number : ℤ) → int_eq (pos t.id) number ≡ false → thing_numbered things number ≡ thing_numbered (things ++ t ∷ []) number
+find-push : (things : List Thing) (t : Thing) (number : ℤ) → int_eq (pos t.id) number ≡ false → thing_numbered things number
+    ≡ thing_numbered (things ++ t ∷ []) number
 find-push [] t number other = rw other refl
 find-push (u ∷ us) t number other = ap (λ o. if int_eq (pos u.id) number then Some u else o) (find-push us t number other)
 

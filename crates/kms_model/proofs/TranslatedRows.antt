@@ -10,7 +10,8 @@ use Rattle.kms_model.specs.declared.legacy.TheConstants.LegacyRefusal.{NOT_SHOWN
 use Rattle.kms_model.specs.declared.objects.Format.TheVariants.{Xr24}
 use Rattle.kms_model.specs.declared.objects.Kind.TheVariants as kind
 use Rattle.kms_model.specs.declared.objects.Mode.{Mode}
-use Rattle.kms_model.specs.declared.properties.TheConstants.{FB_ID, CRTC_ID, CRTC_X, CRTC_Y, CRTC_W, CRTC_H, SRC_X, SRC_Y, SRC_W, SRC_H, ACTIVE, MODE_ID}
+use Rattle.kms_model.specs.declared.properties.TheConstants.{FB_ID, CRTC_ID, CRTC_X, CRTC_Y, CRTC_W, CRTC_H, SRC_X, SRC_Y, SRC_W, SRC_H}
+use Rattle.kms_model.specs.declared.properties.TheConstants.{ACTIVE, MODE_ID}
 use Rattle.kms_model.specs.declared.scripts.Assign.{Assign}
 use Rattle.kms_model.specs.declared.scripts.Command.{Command}
 use Rattle.kms_model.specs.declared.scripts.Command.TheVariants as command
@@ -53,11 +54,13 @@ old_script = record {
   commands = map (λ c. Plain c) making ++ Call flips ∷ Call lights ∷ Call flips ∷ [];
 }
 
-pub script_with_older_calls_is_read : legacy_input (head ++ made ++ codes "pageflip 0 @f 0x1 7\nsetcrtc 0 @f 0 0 @m 0\npageflip 0 @f 0x1 7\n") ≡ Ok old_script
+pub script_with_older_calls_is_read : legacy_input
+    (head ++ made ++ codes "pageflip 0 @f 0x1 7\nsetcrtc 0 @f 0 0 @m 0\npageflip 0 @f 0x1 7\n") ≡ Ok old_script
 unfolding on_legacy
 script_with_older_calls_is_read = refl
 
-pub script_with_older_calls_is_spelt : SpellsLegacy (head ++ made ++ codes "pageflip 0 @f 0x1 7\nsetcrtc 0 @f 0 0 @m 0\npageflip 0 @f 0x1 7\n") old_script
+pub script_with_older_calls_is_spelt : SpellsLegacy
+    (head ++ made ++ codes "pageflip 0 @f 0x1 7\nsetcrtc 0 @f 0 0 @m 0\npageflip 0 @f 0x1 7\n") old_script
 unfolding on_legacy
 script_with_older_calls_is_spelt = refl
 

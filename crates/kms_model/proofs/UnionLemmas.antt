@@ -29,4 +29,6 @@ bit-or false false = refl
 
 -- `a | b`: the objects of both sets
 pub has_bit-or : (a b i : ℕ) → has_bit (bit_or a b) i ≡ (has_bit a i || has_bit b i)
-has_bit-or a b i = has_bit-from (bit_or a b) i (has_bit a i || has_bit b i) (bit_at_or a b i ∙ ap (λ x. max x (bit_at b i)) (bit_from a i) ∙ ap (λ x. max (bit (has_bit a i)) x) (bit_from b i) ∙ bit-or (has_bit a i) (has_bit b i))
+has_bit-or a b i = has_bit-from (bit_or a b) i (has_bit a i || has_bit b i)
+    (bit_at_or a b i ∙ ap (λ x. max x (bit_at b i)) (bit_from a i) ∙ ap (λ x. max (bit (has_bit a i)) x) (bit_from b i) ∙ bit-or
+    (has_bit a i) (has_bit b i))

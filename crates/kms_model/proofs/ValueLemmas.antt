@@ -20,5 +20,6 @@ pub Puts-put : (values : List Setting) (object prop : ℕ) (number : ℤ) → Pu
 Puts-put values object prop number = record {
   at = value-put values object prop number object prop ∙ rw (eq-eqb object object refl, eq-eqb prop prop refl) refl;
   other_object = λ o p other. value-put values object prop number o p ∙ rw (ne_eqb object o (λ e. other (sym e))) refl;
-  other_prop = λ p other. value-put values object prop number object p ∙ rw (ne_eqb prop p (λ e. other (sym e))) (other_prop-reads (object == object) number (value values object p));
+  other_prop = λ p other. value-put values object prop number object p ∙ rw (ne_eqb prop p (λ e. other (sym e)))
+      (other_prop-reads (object == object) number (value values object p));
 }

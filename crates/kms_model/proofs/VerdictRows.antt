@@ -7,7 +7,8 @@ use Rattle.kms_model.specs.declared.objects.Format.TheVariants.{Xr24, Rg16}
 use Rattle.kms_model.specs.declared.objects.Kind.{Kind}
 use Rattle.kms_model.specs.declared.objects.Kind.TheVariants as kind
 use Rattle.kms_model.specs.declared.objects.Topology.{Topology}
-use Rattle.kms_model.specs.declared.properties.TheConstants.{TYPE, FB_ID, CRTC_ID, CRTC_X, CRTC_W, CRTC_H, SRC_X, SRC_W, SRC_H, IN_FENCE_FD, ALPHA, ACTIVE, MODE_ID, OUT_FENCE_PTR}
+use Rattle.kms_model.specs.declared.properties.TheConstants.{TYPE, FB_ID, CRTC_ID, CRTC_X, CRTC_W, CRTC_H, SRC_X, SRC_W, SRC_H, IN_FENCE_FD}
+use Rattle.kms_model.specs.declared.properties.TheConstants.{ALPHA, ACTIVE, MODE_ID, OUT_FENCE_PTR}
 use Rattle.kms_model.specs.declared.replies.Refusal.{Refusal}
 use Rattle.kms_model.specs.declared.replies.Reply.{Reply}
 use Rattle.kms_model.specs.declared.replies.Reply.TheVariants as reply
@@ -91,59 +92,79 @@ pub flags_and_assignments : replies device ((
     ∷ request 0x0 (sets kind.Plane 0 TYPE (number 1) ∷ [])
     ∷ request 0x0 (sets kind.Plane 0 ALPHA (number 65536) ∷ [])
     ∷ []) ∷ [])
-    ≡ refused refusal.SIGNAL_WHILE_OFF ∷ refused refusal.TEST_WITH_EVENT ∷ refused refusal.ASYNC_FLIP ∷ refused refusal.UNKNOWN_FLAG ∷ refused refusal.EVENT_WITHOUT_CRTC ∷ reply.Commit 0 ∷ refused refusal.NO_OBJECT ∷ refused refusal.NO_PROPERTY ∷ refused refusal.IMMUTABLE_PROPERTY ∷ refused refusal.INVALID_VALUE ∷ []
+    ≡ refused refusal.SIGNAL_WHILE_OFF ∷ refused refusal.TEST_WITH_EVENT ∷ refused refusal.ASYNC_FLIP ∷ refused refusal.UNKNOWN_FLAG
+    ∷ refused refusal.EVENT_WITHOUT_CRTC ∷ reply.Commit 0 ∷ refused refusal.NO_OBJECT ∷ refused refusal.NO_PROPERTY
+    ∷ refused refusal.IMMUTABLE_PROPERTY ∷ refused refusal.INVALID_VALUE ∷ []
 unfolding on_literals
 flags_and_assignments = refl
 
-pub framebuffer_without_crtc : replies device ((made ++ request ALLOW_MODESET (sets kind.Plane 0 FB_ID (value.Named 1) ∷ []) ∷ []) ∷ []) ≡ three_made ++ refused refusal.FRAMEBUFFER_XOR_CRTC ∷ []
+pub framebuffer_without_crtc : replies device ((made ++ request ALLOW_MODESET (sets kind.Plane 0 FB_ID (value.Named 1) ∷ []) ∷ []) ∷ [])
+    ≡ three_made ++ refused refusal.FRAMEBUFFER_XOR_CRTC ∷ []
 unfolding on_literals
 framebuffer_without_crtc = refl
 
-pub crtc_that_a_plane_cannot_have : replies first_alone ((made ++ request ALLOW_MODESET (sets kind.Plane 0 FB_ID (value.Named 1) ∷ sets kind.Plane 0 CRTC_ID (value.Crtc 1) ∷ []) ∷ []) ∷ []) ≡ three_made ++ refused refusal.CRTC_NOT_POSSIBLE ∷ []
+pub crtc_that_a_plane_cannot_have : replies first_alone
+    ((made ++ request ALLOW_MODESET (sets kind.Plane 0 FB_ID (value.Named 1) ∷ sets kind.Plane 0 CRTC_ID (value.Crtc 1) ∷ []) ∷ []) ∷ [])
+    ≡ three_made ++ refused refusal.CRTC_NOT_POSSIBLE ∷ []
 unfolding on_literals
 crtc_that_a_plane_cannot_have = refl
 
-pub format_that_a_plane_cannot_have : replies device ((made_with 1 Rg16 ++ request ALLOW_MODESET light ∷ []) ∷ []) ≡ three_made ++ refused refusal.FORMAT_NOT_SUPPORTED ∷ []
+pub format_that_a_plane_cannot_have : replies device ((made_with 1 Rg16 ++ request ALLOW_MODESET light ∷ []) ∷ []) ≡ three_made
+    ++ refused refusal.FORMAT_NOT_SUPPORTED ∷ []
 unfolding on_literals
 format_that_a_plane_cannot_have = refl
 
-pub destination_ends_beyond : replies device ((made ++ request ALLOW_MODESET (light ++ sets kind.Plane 0 CRTC_X (number 2147483647) ∷ []) ∷ []) ∷ []) ≡ three_made ++ refused refusal.DESTINATION_TOO_FAR ∷ []
+pub destination_ends_beyond : replies device ((made ++ request ALLOW_MODESET (light ++ sets kind.Plane 0 CRTC_X (number 2147483647) ∷ [])
+    ∷ []) ∷ []) ≡ three_made ++ refused refusal.DESTINATION_TOO_FAR ∷ []
 unfolding on_literals
 destination_ends_beyond = refl
 
-pub source_ends_outside : replies device ((made ++ request ALLOW_MODESET (light ++ sets kind.Plane 0 SRC_W (number 65537) ∷ []) ∷ []) ∷ []) ≡ three_made ++ refused refusal.SOURCE_OUTSIDE_FRAMEBUFFER ∷ []
+pub source_ends_outside : replies device ((made ++ request ALLOW_MODESET (light ++ sets kind.Plane 0 SRC_W (number 65537) ∷ []) ∷ []) ∷ [])
+    ≡ three_made ++ refused refusal.SOURCE_OUTSIDE_FRAMEBUFFER ∷ []
 unfolding on_literals
 source_ends_outside = refl
 
-pub plane_goes_straight_to_another_crtc : replies two_crtcs ((made ++ request ALLOW_MODESET light ∷ request ALLOW_MODESET (sets kind.Plane 0 CRTC_ID (value.Crtc 1) ∷ []) ∷ []) ∷ []) ≡ three_made ++ reply.Commit 0 ∷ refused refusal.SWITCHES_CRTC ∷ []
+pub plane_goes_straight_to_another_crtc : replies two_crtcs
+    ((made ++ request ALLOW_MODESET light ∷ request ALLOW_MODESET (sets kind.Plane 0 CRTC_ID (value.Crtc 1) ∷ []) ∷ []) ∷ []) ≡ three_made
+    ++ reply.Commit 0 ∷ refused refusal.SWITCHES_CRTC ∷ []
 unfolding on_literals
 plane_goes_straight_to_another_crtc = refl
 
-pub on_without_a_mode : replies device ((request ALLOW_MODESET (sets kind.Crtc 0 ACTIVE (number 1) ∷ []) ∷ []) ∷ []) ≡ refused refusal.ACTIVE_WITHOUT_MODE ∷ []
+pub on_without_a_mode : replies device ((request ALLOW_MODESET (sets kind.Crtc 0 ACTIVE (number 1) ∷ []) ∷ []) ∷ [])
+    ≡ refused refusal.ACTIVE_WITHOUT_MODE ∷ []
 unfolding on_literals
 on_without_a_mode = refl
 
-pub crtc_that_a_connector_cannot_have : replies first_alone ((request ALLOW_MODESET (sets kind.Conn 0 CRTC_ID (value.Crtc 1) ∷ []) ∷ []) ∷ []) ≡ refused refusal.CONNECTOR_NOT_POSSIBLE ∷ []
+pub crtc_that_a_connector_cannot_have : replies first_alone
+    ((request ALLOW_MODESET (sets kind.Conn 0 CRTC_ID (value.Crtc 1) ∷ []) ∷ []) ∷ []) ≡ refused refusal.CONNECTOR_NOT_POSSIBLE ∷ []
 unfolding on_literals
 crtc_that_a_connector_cannot_have = refl
 
-pub two_connectors_of_a_crtc : replies two_conns ((made ++ request ALLOW_MODESET (light ++ sets kind.Conn 1 CRTC_ID (value.Crtc 0) ∷ []) ∷ []) ∷ []) ≡ three_made ++ refused refusal.CLONED_CONNECTORS ∷ []
+pub two_connectors_of_a_crtc : replies two_conns
+    ((made ++ request ALLOW_MODESET (light ++ sets kind.Conn 1 CRTC_ID (value.Crtc 0) ∷ []) ∷ []) ∷ []) ≡ three_made
+    ++ refused refusal.CLONED_CONNECTORS ∷ []
 unfolding on_literals
 two_connectors_of_a_crtc = refl
 
-pub mode_without_a_connector : replies device ((made ++ request ALLOW_MODESET (sets kind.Crtc 0 MODE_ID (value.Named 2) ∷ []) ∷ []) ∷ []) ≡ three_made ++ refused refusal.MODE_XOR_CONNECTOR ∷ []
+pub mode_without_a_connector : replies device ((made ++ request ALLOW_MODESET (sets kind.Crtc 0 MODE_ID (value.Named 2) ∷ []) ∷ []) ∷ [])
+    ≡ three_made ++ refused refusal.MODE_XOR_CONNECTOR ∷ []
 unfolding on_literals
 mode_without_a_connector = refl
 
-pub plane_on_a_crtc_without_a_mode : replies device ((made ++ request ALLOW_MODESET plane_sets ∷ []) ∷ []) ≡ three_made ++ refused refusal.CRTC_NOT_ENABLED ∷ []
+pub plane_on_a_crtc_without_a_mode : replies device ((made ++ request ALLOW_MODESET plane_sets ∷ []) ∷ []) ≡ three_made
+    ++ refused refusal.CRTC_NOT_ENABLED ∷ []
 unfolding on_literals
 plane_on_a_crtc_without_a_mode = refl
 
-pub destination_of_another_size : replies device ((made ++ request ALLOW_MODESET (light ++ sets kind.Plane 0 CRTC_W (number 2) ∷ []) ∷ []) ∷ []) ≡ three_made ++ refused refusal.SCALED ∷ []
+pub destination_of_another_size : replies device
+    ((made ++ request ALLOW_MODESET (light ++ sets kind.Plane 0 CRTC_W (number 2) ∷ []) ∷ []) ∷ []) ≡ three_made ++ refused refusal.SCALED
+    ∷ []
 unfolding on_literals
 destination_of_another_size = refl
 
-pub source_begins_between_pixels : replies device ((made_with 2 Xr24 ++ request ALLOW_MODESET (light ++ sets kind.Plane 0 SRC_X (number 32768) ∷ []) ∷ []) ∷ []) ≡ three_made ++ refused refusal.FRACTIONAL_SOURCE ∷ []
+pub source_begins_between_pixels : replies device
+    ((made_with 2 Xr24 ++ request ALLOW_MODESET (light ++ sets kind.Plane 0 SRC_X (number 32768) ∷ []) ∷ []) ∷ []) ≡ three_made
+    ++ refused refusal.FRACTIONAL_SOURCE ∷ []
 unfolding on_literals
 source_begins_between_pixels = refl
 
@@ -152,7 +173,9 @@ unfolding on_literals
 modeset_without_leave = refl
 
 -- an equal mode in another blob is no modeset
-pub equal_mode_needs_no_leave : replies device ((made ++ request ALLOW_MODESET light ∷ command.Mode 3 named_tiny ∷ request 0x0 (sets kind.Crtc 0 MODE_ID (value.Named 3) ∷ []) ∷ []) ∷ []) ≡ three_made ++ reply.Commit 0 ∷ reply.Made 1003 ∷ reply.Commit 1 ∷ []
+pub equal_mode_needs_no_leave : replies device
+    ((made ++ request ALLOW_MODESET light ∷ command.Mode 3 named_tiny ∷ request 0x0 (sets kind.Crtc 0 MODE_ID (value.Named 3) ∷ []) ∷ [])
+    ∷ []) ≡ three_made ++ reply.Commit 0 ∷ reply.Made 1003 ∷ reply.Commit 1 ∷ []
 unfolding on_literals
 equal_mode_needs_no_leave = refl
 
@@ -160,21 +183,27 @@ equal_mode_needs_no_leave = refl
 pub things_of_another_client : replies device ((made ++ request ALLOW_MODESET light ∷ []) ∷ (
     command.Blob 3 (0 ∷ []) ∷ command.Blob 4 (0 ∷ []) ∷ command.Blob 5 (0 ∷ []) ∷ command.Blob 6 (0 ∷ [])
     ∷ command.Destroy 2 ∷ command.CloseFb 1 ∷ command.AddFb 7 0 ∷ command.Signal 2 ∷ command.Buffer 8 0 1 Xr24 (Solid 0) ∷ []) ∷ [])
-    ≡ reply.Made 1000 ∷ reply.Made 1001 ∷ reply.Made 1002 ∷ reply.Made 1003 ∷ reply.Made 1004 ∷ reply.Made 1005 ∷ reply.Commit 0 ∷ reply.Made 1006
-    ∷ reply.Denied denied.NOT_OWNER.0 ∷ reply.Denied denied.NOT_FOUND.0 ∷ reply.Denied denied.NOT_FOUND.0 ∷ reply.Denied denied.NOT_SIGNALLABLE.0 ∷ reply.Denied denied.INVALID_SIZE.0 ∷ []
+    ≡ reply.Made 1000 ∷ reply.Made 1001 ∷ reply.Made 1002 ∷ reply.Made 1003 ∷ reply.Made 1004 ∷ reply.Made 1005 ∷ reply.Commit 0
+    ∷ reply.Made 1006
+    ∷ reply.Denied denied.NOT_OWNER.0 ∷ reply.Denied denied.NOT_FOUND.0 ∷ reply.Denied denied.NOT_FOUND.0
+    ∷ reply.Denied denied.NOT_SIGNALLABLE.0 ∷ reply.Denied denied.INVALID_SIZE.0 ∷ []
 unfolding on_literals
 things_of_another_client = refl
 
 -- the buffers of a device have at most 268435456 bytes
 pub fifth_large_buffer : replies device ((
-    command.Buffer 0 4096 4096 Xr24 (Solid 0) ∷ command.Buffer 1 4096 4096 Xr24 (Solid 0) ∷ command.Buffer 2 4096 4096 Xr24 (Solid 0) ∷ command.Buffer 3 4096 4096 Xr24 (Solid 0)
+    command.Buffer 0 4096 4096 Xr24 (Solid 0) ∷ command.Buffer 1 4096 4096 Xr24 (Solid 0) ∷ command.Buffer 2 4096 4096 Xr24 (Solid 0)
+    ∷ command.Buffer 3 4096 4096 Xr24 (Solid 0)
     ∷ command.Buffer 4 1 1 Xr24 (Solid 0) ∷ []) ∷ [])
     ≡ three_made ++ reply.Made 1003 ∷ reply.Denied denied.NO_BUFFER_SPACE.0 ∷ []
 unfolding on_literals
 fifth_large_buffer = refl
 
 -- a destroyed mode is named no more
-pub destroyed_mode_is_named_no_more : replies device ((made ++ request ALLOW_MODESET light ∷ command.Destroy 2 ∷ command.Destroy 2 ∷ request ALLOW_MODESET (sets kind.Crtc 0 MODE_ID (value.Named 2) ∷ []) ∷ request 0x0 (sets kind.Plane 0 ALPHA (number 0) ∷ []) ∷ []) ∷ [])
+pub destroyed_mode_is_named_no_more : replies device
+    ((made ++ request ALLOW_MODESET light ∷ command.Destroy 2 ∷ command.Destroy 2
+    ∷ request ALLOW_MODESET (sets kind.Crtc 0 MODE_ID (value.Named 2) ∷ []) ∷ request 0x0 (sets kind.Plane 0 ALPHA (number 0) ∷ []) ∷ [])
+    ∷ [])
     ≡ three_made ++ reply.Commit 0 ∷ reply.Done ∷ reply.Denied denied.NOT_FOUND.0 ∷ refused refusal.INVALID_VALUE ∷ reply.Commit 1 ∷ []
 unfolding on_literals
 destroyed_mode_is_named_no_more = refl
@@ -197,7 +226,8 @@ put_off =
     ∷ sets kind.Plane 0 CRTC_ID (number 0)
     ∷ []
 
-pub closed_framebuffer_is_freed_when_its_plane_goes_off : report plain ((made ++ request ALLOW_MODESET light ∷ command.CloseFb 1 ∷ request ALLOW_MODESET put_off ∷ []) ∷ [])
+pub closed_framebuffer_is_freed_when_its_plane_goes_off : report plain
+    ((made ++ request ALLOW_MODESET light ∷ command.CloseFb 1 ∷ request ALLOW_MODESET put_off ∷ []) ∷ [])
     ≡ codes "J 1 1\nJ 1 2\nJ 1 3\nJ 1 4\nJ 1 5\nJ 1 6\nR 1 1 0 made 1000\nR 1 2 1 made 1001\nR 1 3 2 made 1002\nR 1 4 3 commit 0\nR 1 5 4 done\nR 1 6 5 commit 1\nL 0 0 1 709e80c88487a2411e1ee4dfb9f22a861492d20c4765150c0c794abd70f8147c\nL 0 1 1 off\nX f 1001\nD drained\n"
 unfolding on_machines
 closed_framebuffer_is_freed_when_its_plane_goes_off = refl
@@ -208,26 +238,33 @@ pub frame_follows_its_line : report pixmaps ((made ++ request ALLOW_MODESET ligh
 unfolding on_machines
 frame_follows_its_line = refl
 
-pub unused_framebuffer_is_freed_as_it_is_closed : report plain ((command.Buffer 0 1 1 Xr24 (Solid 0) ∷ command.AddFb 1 0 ∷ command.CloseFb 1 ∷ command.CloseFb 1 ∷ []) ∷ [])
+pub unused_framebuffer_is_freed_as_it_is_closed : report plain
+    ((command.Buffer 0 1 1 Xr24 (Solid 0) ∷ command.AddFb 1 0 ∷ command.CloseFb 1 ∷ command.CloseFb 1 ∷ []) ∷ [])
     ≡ codes "J 1 1\nJ 1 2\nJ 1 3\nR 1 1 0 made 1000\nR 1 2 1 made 1001\nR 1 3 2 done\nR 1 4 3 ENOENT 33\nX f 1001\nD drained\n"
 unfolding on_machines
 unused_framebuffer_is_freed_as_it_is_closed = refl
 
 -- Fences
 
-pub second_fence_of_a_plane : replies device ((command.Fence 0 ∷ request 0x0 (sets kind.Plane 0 IN_FENCE_FD (value.Named 0) ∷ sets kind.Plane 0 IN_FENCE_FD (value.Num (negsuc 0)) ∷ []) ∷ request 0x0 (sets kind.Plane 0 IN_FENCE_FD (value.Num (negsuc 0)) ∷ sets kind.Plane 0 IN_FENCE_FD (value.Named 0) ∷ []) ∷ []) ∷ [])
+pub second_fence_of_a_plane : replies device ((command.Fence 0
+    ∷ request 0x0 (sets kind.Plane 0 IN_FENCE_FD (value.Named 0) ∷ sets kind.Plane 0 IN_FENCE_FD (value.Num (negsuc 0)) ∷ [])
+    ∷ request 0x0 (sets kind.Plane 0 IN_FENCE_FD (value.Num (negsuc 0)) ∷ sets kind.Plane 0 IN_FENCE_FD (value.Named 0) ∷ []) ∷ []) ∷ [])
     ≡ reply.Made 1000 ∷ refused refusal.SECOND_IN_FENCE ∷ reply.Commit 0 ∷ []
 unfolding on_literals
 second_fence_of_a_plane = refl
 
 -- an out-fence is a fence that later requests name, and that no command signals
-pub out_fence_is_made_by_its_commit : replies device ((made ++ request ALLOW_MODESET (light ++ sets kind.Crtc 0 OUT_FENCE_PTR (value.New 3) ∷ []) ∷ request 0x0 (sets kind.Plane 0 IN_FENCE_FD (value.Named 3) ∷ []) ∷ command.Signal 3 ∷ command.Fence 4 ∷ command.Signal 4 ∷ []) ∷ [])
+pub out_fence_is_made_by_its_commit : replies device
+    ((made ++ request ALLOW_MODESET (light ++ sets kind.Crtc 0 OUT_FENCE_PTR (value.New 3) ∷ [])
+    ∷ request 0x0 (sets kind.Plane 0 IN_FENCE_FD (value.Named 3) ∷ []) ∷ command.Signal 3 ∷ command.Fence 4 ∷ command.Signal 4 ∷ []) ∷ [])
     ≡ three_made ++ reply.Commit 0 ∷ reply.Commit 1 ∷ reply.Denied denied.NOT_SIGNALLABLE.0 ∷ reply.Made 1004 ∷ reply.Done ∷ []
 unfolding on_literals
 out_fence_is_made_by_its_commit = refl
 
 -- the bytes of a legal mode are a mode, and other bytes are none
-pub mode_by_its_bytes : replies device ((command.Blob 2 (mode_bytes named_tiny) ∷ command.Blob 3 (0 ∷ []) ∷ request ALLOW_MODESET (sets kind.Crtc 0 MODE_ID (value.Named 2) ∷ sets kind.Conn 0 CRTC_ID (value.Crtc 0) ∷ []) ∷ request ALLOW_MODESET (sets kind.Crtc 0 MODE_ID (value.Named 3) ∷ []) ∷ []) ∷ [])
+pub mode_by_its_bytes : replies device ((command.Blob 2 (mode_bytes named_tiny) ∷ command.Blob 3 (0 ∷ [])
+    ∷ request ALLOW_MODESET (sets kind.Crtc 0 MODE_ID (value.Named 2) ∷ sets kind.Conn 0 CRTC_ID (value.Crtc 0) ∷ [])
+    ∷ request ALLOW_MODESET (sets kind.Crtc 0 MODE_ID (value.Named 3) ∷ []) ∷ []) ∷ [])
     ≡ reply.Made 1000 ∷ reply.Made 1001 ∷ reply.Commit 0 ∷ refused refusal.INVALID_VALUE ∷ []
 unfolding on_literals
 mode_by_its_bytes = refl

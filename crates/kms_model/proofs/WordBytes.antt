@@ -20,7 +20,8 @@ bytes-append (x ∷ xs) ys small more = (small.0, bytes-append xs ys small.1 mor
 two_and : {P : Type 0} (n : ℕ) → P → (n % 256 < 256) × (((n / 256) % 256 < 256) × P)
 two_and n p = (omega arith, (omega arith, p))
 
-four_and : {P : Type 0} (n : ℕ) → P → (n % 256 < 256) × (((n / 256) % 256 < 256) × (((n / 65536) % 256 < 256) × (((n / 16777216) % 256 < 256) × P)))
+four_and : {P : Type 0} (n : ℕ) → P → (n % 256 < 256)
+    × (((n / 256) % 256 < 256) × (((n / 65536) % 256 < 256) × (((n / 16777216) % 256 < 256) × P)))
 four_and n p = (omega arith, (omega arith, (omega arith, (omega arith, p))))
 
 pub mode_small : (m : Mode) → AreBytes m.name → AreBytes (mode_bytes m)
@@ -46,5 +47,7 @@ words_back (suc n) (a ∷ b ∷ []) e small = absurd (omega arith)
 words_back (suc n) (a ∷ b ∷ c ∷ []) e small = absurd (omega arith)
 words_back (suc n) (a ∷ b ∷ c ∷ d ∷ rest) e small =
     let four : AreBytes (a ∷ b ∷ c ∷ d ∷ []) = (small.0, (small.1.0, (small.1.1.0, (small.1.1.1.0, tt)))) in
-    let word : to_le_bytes w32 (from_le_bytes w32 (a ∷ b ∷ c ∷ d ∷ [])) ≡ a ∷ b ∷ c ∷ d ∷ [] = le_bytes_4 (a ∷ b ∷ c ∷ d ∷ []) (from_le_bytes w32 (a ∷ b ∷ c ∷ d ∷ [])) refl (λ i. small_at (a ∷ b ∷ c ∷ d ∷ []) i four) refl in
+    let word : to_le_bytes w32 (from_le_bytes w32 (a ∷ b ∷ c ∷ d ∷ [])) ≡ a ∷ b ∷ c ∷ d
+    ∷ [] = le_bytes_4 (a ∷ b ∷ c ∷ d ∷ []) (from_le_bytes w32 (a ∷ b ∷ c ∷ d ∷ [])) refl (λ i. small_at (a ∷ b ∷ c ∷ d ∷ []) i four)
+    refl in
     (λ i. word i ++ words_back n rest (omega arith) small.1.1.1.1 i)

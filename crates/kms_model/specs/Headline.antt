@@ -51,11 +51,16 @@ frame_or_off (On shown) bytes = Some bytes
 
 -- the frames of what a CRTC latches in a history, over the things at its end: a report tells their digests
 abbrev pub latched_frames : Script → List Step → ℕ → List CommitFrame
-latched_frames s h crtc = map (λ l. record { commit = l.commit; frame = frame_or_off l.picture (frame_bytes (at s h).device.world.things l.picture) }) (latched (at s h) crtc)
+latched_frames s h crtc = map (λ l. record {
+  commit = l.commit;
+  frame = frame_or_off l.picture
+      (frame_bytes (at s h).device.world.things l.picture);
+}) (latched (at s h) crtc)
 
 -- the frames of what the device of one thread shows on a CRTC, each over the things that there are at its entry of the journal
 abbrev pub shown_frames : Script → List Entry → ℕ → List CommitFrame
-shown_frames s entries crtc = map (λ p. record { commit = p.commit; frame = frame_or_off p.picture p.frame }) (show s entries (object_id Crtc crtc))
+shown_frames s entries crtc = map (λ p. record { commit = p.commit; frame = frame_or_off p.picture p.frame })
+    (show s entries (object_id Crtc crtc))
 
 -- one list begins with another
 abbrev pub IsPrefixOf : {A : Type 0} → List A → List A → Type 0
@@ -86,9 +91,12 @@ pub record StandsAtPlace (s : Script) (entries : List Entry) (a : Answered) : Ty
 
 pub record Headline (s : Script) (h : List Step) : Type 0 where
   pub in_order : (crtc : ℕ) → crtc < s.topology.crtcs → IsPrefixOf (latched_pictures s h crtc) (shown_pictures s (history_journal s h) crtc)
-  pub all_of_them : is_drained s (at s h) ≡ true → (crtc : ℕ) → crtc < s.topology.crtcs → latched_pictures s h crtc ≡ shown_pictures s (history_journal s h) crtc
-  pub frames_in_order : (crtc : ℕ) → crtc < s.topology.crtcs → IsPrefixOf (latched_frames s h crtc) (shown_frames s (history_journal s h) crtc)
-  pub all_frames : is_drained s (at s h) ≡ true → (crtc : ℕ) → crtc < s.topology.crtcs → latched_frames s h crtc ≡ shown_frames s (history_journal s h) crtc
+  pub all_of_them : is_drained s (at s h) ≡ true → (crtc : ℕ) → crtc < s.topology.crtcs → latched_pictures s h crtc
+      ≡ shown_pictures s (history_journal s h) crtc
+  pub frames_in_order : (crtc : ℕ) → crtc < s.topology.crtcs
+      → IsPrefixOf (latched_frames s h crtc) (shown_frames s (history_journal s h) crtc)
+  pub all_frames : is_drained s (at s h) ≡ true → (crtc : ℕ) → crtc < s.topology.crtcs → latched_frames s h crtc
+      ≡ shown_frames s (history_journal s h) crtc
   pub verdicts : All (StandsAtPlace s (history_journal s h)) (replies (at s h))
 
 abbrev pub HeadlineHolds : Type 0

@@ -1,5 +1,6 @@
 -- What holds of every history besides the headline: each promise by its name.
-use Rattle.std.specs.Prelude.{◌≡◌, ◌≢◌, ℕ, nat_eq, ◌<◌, ◌==◌, ◌&&◌, not, true, false, List, [], ◌∷◌, ◌++◌, length, map, filter, find, reverse, ◌%◌, ◌^◌, Option, Some, None, ◌↔◌, if◌then◌else◌}
+use Rattle.std.specs.Prelude.{◌≡◌, ◌≢◌, ℕ, nat_eq, ◌<◌, ◌==◌, ◌&&◌, not, true, false, List, [], ◌∷◌, ◌++◌, length, map, filter, find}
+use Rattle.std.specs.Prelude.{reverse, ◌%◌, ◌^◌, Option, Some, None, ◌↔◌, if◌then◌else◌}
 use Rattle.std.specs.List.{All, IsDistinct, flat_map, filter_map}
 use Rattle.kms_model.specs.declared.objects.Kind.TheVariants.{Crtc, Plane, Conn}
 use Rattle.kms_model.specs.declared.objects.Topology.{Topology}
@@ -22,7 +23,8 @@ use Rattle.kms_model.specs.Request.Agreement.{crtc_state_at}
 use Rattle.kms_model.specs.Request.Flags.{is_test, is_nonblock}
 use Rattle.kms_model.specs.Request.Sets.{obj_id}
 use Rattle.kms_model.specs.Request.Verdict.{verdict}
-use Rattle.kms_model.specs.Machine.Commits.{asks_event, commit_at, commit_names, has_latched, is_claimed, is_cleaned, new_values, previous, waited_fences}
+use Rattle.kms_model.specs.Machine.Commits.{asks_event, commit_at, commit_names, has_latched, is_claimed, is_cleaned, new_values, previous}
+use Rattle.kms_model.specs.Machine.Commits.{waited_fences}
 use Rattle.kms_model.specs.Machine.Effects.{decided, next, refusal_reply}
 use Rattle.kms_model.specs.Machine.Framebuffers.{freed, freed_by_step, is_in_things, is_needed}
 use Rattle.kms_model.specs.Machine.Histories.{at, commit_numbers, is_awaited, is_dead, is_history, last_latched, legal, stalled_on}
@@ -86,7 +88,11 @@ WholePictures = InEachHistory (λ s h. (crtc : ℕ) → crtc < s.topology.crtcs 
 abbrev pub event_of_latch : Topology → List Commit → ℕ → Latch → Option Event
 event_of_latch t cs client l =
     if asks_event t cs l.commit && ((commit_at t cs l.commit).client == client)
-    then Some (record { user_data = (commit_at t cs l.commit).request.user_data; sequence = l.count % 2 ^ 32; crtc = object_id Crtc l.crtc })
+    then Some (record {
+      user_data = (commit_at t cs l.commit).request.user_data;
+      sequence = l.count % 2 ^ 32;
+      crtc = object_id Crtc l.crtc;
+    })
     else None
 
 -- the events delivered to a client, one for each latch of its commits that ask for events, in order of time
@@ -115,7 +121,8 @@ EventsOnce = InEachHistory (λ s h. (client : ℕ) →
 -- not needed.
 abbrev pub FramebuffersOnce : Type 0
 FramebuffersOnce = AtEachStep (λ s m step. All (λ thing. is_framebuffer thing.content ≡ true → is_needed s.topology m thing ≡ false
-    → (later : Thing) → thing_with_id (next s m step).device.world.things thing.id ≡ Some later → is_needed s.topology (next s m step) later ≡ false) m.device.world.things)
+    → (later : Thing) → thing_with_id (next s m step).device.world.things thing.id ≡ Some later → is_needed s.topology (next s m step) later
+    ≡ false) m.device.world.things)
 
 -- What a history freed: no framebuffer twice, and each that was made where it is not needed. A step frees what is needed before
 -- it and not after it.
@@ -151,7 +158,8 @@ pub record IsBusyFor (t : Topology) (m : Machine) (client : ℕ) (r : Request) (
 -- A client that takes locks for a request may be answered busy, with an object and a commit, exactly where it is busy for that
 -- object, and that commit is the last that touched it.
 abbrev pub CauseOfBusy : Type 0
-CauseOfBusy = InEachHistory (λ s h. (client : ℕ) (r : Request) (object k : ℕ) → request_at s (at s h) client ≡ Some r → is_taking (doing_at (at s h) client) ≡ true
+CauseOfBusy = InEachHistory (λ s h. (client : ℕ) (r : Request) (object k : ℕ) → request_at s (at s h) client ≡ Some r
+    → is_taking (doing_at (at s h) client) ≡ true
     → ((legal s (at s h) (Refuse client) ≡ true)
     × (refusal_reply s.topology (at s h) client r (verdict s.topology (at s h).device.world r) ≡ reply.Busy (obj_id object) k))
     ↔ (IsBusyFor s.topology (at s h) client r object
@@ -181,4 +189,5 @@ pub record WaitsForFence (s : Script) (m : Machine) (label : ℕ) : Type 0 where
 
 -- A dead history names such a fence.
 abbrev pub DeadNamesAFence : Type 0
-DeadNamesAFence = InEachHistory (λ s h. is_dead s (at s h) ≡ true → (label : ℕ) × (stalled_on s (at s h) ≡ Some label) × WaitsForFence s (at s h) label)
+DeadNamesAFence = InEachHistory (λ s h. is_dead s (at s h) ≡ true → (label : ℕ) × (stalled_on s (at s h) ≡ Some label)
+    × WaitsForFence s (at s h) label)

@@ -18,9 +18,11 @@ going_alive : (s : Script) (m : Machine) → m.stalled ≡ false → is_drained 
 unfolding is_dead
 going_alive s m going drained = λ i. going i || (not (drained i) && not (is_enabled s m))
 
-pub drained_alive : (s : Script) (h : List Step) → IsWellFormed s → is_history s h ≡ true → is_drained s (at s h) ≡ true → is_dead s (at s h) ≡ false
+pub drained_alive : (s : Script) (h : List Step) → IsWellFormed s → is_history s h ≡ true → is_drained s (at s h) ≡ true
+    → is_dead s (at s h) ≡ false
 drained_alive s h formed is drained =
     ⊎_elim
     (λ going. going_alive s (at s h) going drained)
-    (λ (w : WasEnded s (at s h)). absurd (false≢true (sym w.stuck.undrained ∙ sym (drained_ended s w.before) ∙ ap (is_drained s) (sym w.same) ∙ drained)))
+    (λ (w : WasEnded s (at s h)). absurd (false≢true
+    (sym w.stuck.undrained ∙ sym (drained_ended s w.before) ∙ ap (is_drained s) (sym w.same) ∙ drained)))
     (history_along s h (plain-from s formed) is).end

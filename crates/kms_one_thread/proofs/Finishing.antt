@@ -14,8 +14,10 @@ use Rattle.kms_core.specs.Run.{Run, gains, machine}
 use Rattle.kms_one_thread.specs.Rounds.{ExtendsRun, progress}
 use Rattle.kms_one_thread.proofs.Histories.{goes_then, progress_step, stays}
 
-pub ended : (old new : Run) → legal old.script (machine old) Stall ≡ true → new ≡ gains old (Stall ∷ []) → progress new ≡ ends old.script (progress old)
-ended old new dead after = progress_step old new Stall after ∙ sym (cond-true (legal old.script (machine old) Stall) (does old.script (progress old) Stall) (progress old) dead)
+pub ended : (old new : Run) → legal old.script (machine old) Stall ≡ true → new ≡ gains old (Stall ∷ []) → progress new
+    ≡ ends old.script (progress old)
+ended old new dead after = progress_step old new Stall after ∙ sym
+    (cond-true (legal old.script (machine old) Stall) (does old.script (progress old) Stall) (progress old) dead)
 
 rounds_none : (s : Script) (run : Progress) → rounds s zero run ≡ run
 unfolding rounds
@@ -47,12 +49,14 @@ module _ (old : Run) (formed : IsWellFormed old.script) (is : is_history old.scr
   all_still : is_still old.script (rounds old.script most_rounds (progress old)) ≡ true
   all_still = law old.script old.steps formed is most_rounds (omega arith)
 
-  pub finishing_next : (now new : Run) → IsFinishing old now → is_still now.script (progress now) ≡ false → ExtendsRun now new → progress new ≡ round now.script (progress now) → IsFinishing old new
+  pub finishing_next : (now new : Run) → IsFinishing old now → is_still now.script (progress now) ≡ false → ExtendsRun now new
+      → progress new ≡ round now.script (progress now) → IsFinishing old new
   finishing_next now new finishing moving on rounded = by_left finishing.left refl
     where
       by_left : (left : ℕ) → finishing.left ≡ left → IsFinishing old new
       by_left zero none =
-          let whole : progress now ≡ rounds old.script most_rounds (progress old) = sym (rounds_none now.script (progress now)) ∙ ap (λ n. rounds now.script n (progress now)) (sym none) ∙ finishing.same in
+          let whole : progress now ≡ rounds old.script most_rounds (progress old) = sym (rounds_none now.script (progress now)) ∙ ap
+          (λ n. rounds now.script n (progress now)) (sym none) ∙ finishing.same in
           let still : is_still now.script (progress now) ≡ true = (λ i. is_still (finishing.on.script i) (whole i)) ∙ all_still in
           absurd (false≢true (sym moving ∙ still))
       by_left (suc left) some = record {
@@ -66,9 +70,11 @@ module _ (old : Run) (formed : IsWellFormed old.script) (is : is_history old.scr
       }
 
   -- a round without a step leaves the history as it was, which is then ended
-  pub finished_at : (now last new : Run) → IsFinishing old now → is_still now.script (progress now) ≡ true → last ≡ now → progress new ≡ ends last.script (progress last) → IsFinished old.script old.steps new.steps
+  pub finished_at : (now last new : Run) → IsFinishing old now → is_still now.script (progress now) ≡ true → last ≡ now → progress new
+      ≡ ends last.script (progress last) → IsFinished old.script old.steps new.steps
   finished_at now last new finishing still same end =
-      let whole : progress now ≡ rounds old.script most_rounds (progress old) = sym (rounds_still now.script finishing.left (progress now) still) ∙ finishing.same in
+      let whole : progress now ≡ rounds old.script most_rounds (progress old) = sym
+      (rounds_still now.script finishing.left (progress now) still) ∙ finishing.same in
       record {
         most = most_rounds;
         still = all_still;

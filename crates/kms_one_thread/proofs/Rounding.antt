@@ -28,12 +28,14 @@ use Rattle.kms_one_thread.proofs.Histories.{goes_then, progress_length, stays}
 -- the turns of so many clients behind a place are left
 pub record IsTurning (old now : Run) (place left : ℕ) : Type 0 where
   pub on : ExtendsRun old now
-  pub same : fold (turn now.script) (progress now) (range_with_len (place + 1) left) ≡ fold (turn old.script) (progress old) (client_numbers old.script)
+  pub same : fold (turn now.script) (progress now) (range_with_len (place + 1) left)
+      ≡ fold (turn old.script) (progress old) (client_numbers old.script)
 
 pub turning_first : (old : Run) (count : ℕ) → count ≡ length old.script.clients → IsTurning old old 0 count
 turning_first old count is = record { on = stays old; same = ap (λ n. fold (turn old.script) (progress old) (range_with_len 1 n)) is }
 
-pub turning_next : (old now new : Run) (place left left' : ℕ) → left ≡ suc left' → IsTurning old now place left → ExtendsRun now new → progress new ≡ turn now.script (progress now) (place + 1) → IsTurning old new (place + 1) left'
+pub turning_next : (old now new : Run) (place left left' : ℕ) → left ≡ suc left' → IsTurning old now place left → ExtendsRun now new
+    → progress new ≡ turn now.script (progress now) (place + 1) → IsTurning old new (place + 1) left'
 turning_next old now new place left left' fewer turning on turned = record {
   on = goes_then old now new turning.on on;
   same =
@@ -42,7 +44,8 @@ turning_next old now new place left left' fewer turning on turned = record {
       ∙ turning.same;
 }
 
-pub turning_last : (old now new : Run) (place left : ℕ) → left ≡ 0 → IsTurning old now place left → progress new ≡ settles now.script (progress now) → progress new ≡ round old.script (progress old)
+pub turning_last : (old now new : Run) (place left : ℕ) → left ≡ 0 → IsTurning old now place left → progress new
+    ≡ settles now.script (progress now) → progress new ≡ round old.script (progress old)
 unfolding round
 turning_last old now new place left none turning settled =
     let turns : progress now ≡ fold (turn old.script) (progress old) (client_numbers old.script) =
@@ -51,13 +54,15 @@ turning_last old now new place left none turning settled =
 
 -- What a round tells
 
-pub moved_is : (old new : Run) → progress new ≡ round old.script (progress old) → is_still old.script (progress old) ≡ (length new.steps == length old.steps)
+pub moved_is : (old new : Run) → progress new ≡ round old.script (progress old) → is_still old.script (progress old)
+    ≡ (length new.steps == length old.steps)
 moved_is old new rounded =
     (λ i. (ap (λ (p : Progress). length p.steps) (sym rounded) ∙ progress_length new) i == progress_length old i)
 
 -- What a round leaves
 
-moves_more : (s : Script) (m : Machine) (h : List Step) (step : Step) → moves_in s m (h ++ step ∷ []) ≡ moves_in s m h + one_if (is_moving (run_steps s m h) step)
+moves_more : (s : Script) (m : Machine) (h : List Step) (step : Step) → moves_in s m (h ++ step ∷ []) ≡ moves_in s m h
+    + one_if (is_moving (run_steps s m h) step)
 unfolding moves_in run_steps
 moves_more s m [] step = omega arith
 moves_more s m (first ∷ h) step = let rest = moves_more s (next s m first) h step in omega (arith, rest)
@@ -66,7 +71,8 @@ moves_more s m (first ∷ h) step = let rest = moves_more s (next s m first) h s
 abbrev moves : Script → Progress → ℕ
 moves s run = moves_in s (first_machine s.topology) (reverse run.steps)
 
-moves_does : (s : Script) (run : Progress) (step : Step) → IsRun s run → is_moving run.machine step ≡ true → moves s (does s run step) ≡ moves s run + 1
+moves_does : (s : Script) (run : Progress) (step : Step) → IsRun s run → is_moving run.machine step ≡ true → moves s (does s run step)
+    ≡ moves s run + 1
 moves_does s run step is moving =
     ap (moves_in s (first_machine s.topology)) (reverse-append (step ∷ []) run.steps)
     ∙ moves_more s (first_machine s.topology) (reverse run.steps) step
@@ -82,7 +88,8 @@ later_moves s {a} (More step may moving rest) is =
     omega (arith, later, one)
 
 -- a round with a step leaves fewer moves
-pub round_less : (old new : Run) → IsWellFormed old.script → is_history old.script old.steps ≡ true → new.script ≡ old.script → progress new ≡ round old.script (progress old) → is_still old.script (progress old) ≡ false
+pub round_less : (old new : Run) → IsWellFormed old.script → is_history old.script old.steps ≡ true → new.script ≡ old.script → progress new
+    ≡ round old.script (progress old) → is_still old.script (progress old) ≡ false
     → moves_left new < moves_left old
 round_less old new formed is same rounded moving =
     let s = old.script in
@@ -90,20 +97,25 @@ round_less old new formed is same rounded moving =
     let later = round-later s (plain-from s formed) (progress old) R in
     let moved = later_moves s later R in
     let longer = later-length s later in
-    let differ : length (round s (progress old)).steps ≡ length (progress old).steps → ⊥ = λ e. false≢true (sym moving ∙ eq-eqb (length (round s (progress old)).steps) (length (progress old).steps) e) in
+    let differ : length (round s (progress old)).steps ≡ length (progress old).steps
+    → ⊥ = λ e. false≢true (sym moving ∙ eq-eqb (length (round s (progress old)).steps) (length (progress old).steps) e) in
     let few = few-moves s formed (reverse (round s (progress old)).steps) (later-run s later R).is in
-    let before : moves s (progress old) ≡ moves_in s (first_machine s.topology) old.steps = ap (moves_in s (first_machine s.topology)) (reverse-reverse old.steps) in
+    let before : moves s (progress old) ≡ moves_in s (first_machine s.topology) old.steps = ap (moves_in s (first_machine s.topology))
+    (reverse-reverse old.steps) in
     let after : moves s (round s (progress old)) ≡ moves_in new.script (first_machine new.script.topology) new.steps =
     (λ i. moves (sym same i) (sym rounded i)) ∙ ap (moves_in new.script (first_machine new.script.topology)) (reverse-reverse new.steps) in
     less (length (progress old).steps) (length (round s (progress old)).steps) longer differ moved few before after
   where
-    less : {ma mb na nb : ℕ} → (la lb : ℕ) → la ≤ lb → (lb ≡ la → ⊥) → mb + la ≡ ma + lb → mb < 2 ^ 53 → ma ≡ na → mb ≡ nb → 2 ^ 53 - nb < 2 ^ 53 - na
+    less : {ma mb na nb : ℕ} → (la lb : ℕ) → la ≤ lb → (lb ≡ la → ⊥) → mb + la ≡ ma + lb → mb < 2 ^ 53 → ma ≡ na → mb ≡ nb → 2 ^ 53 - nb
+        < 2 ^ 53 - na
     less la lb longer differ moved few before after = omega (arith, longer, differ, moved, few, before, after)
 
 -- a round without a step changes nothing
-pub round_still : (old new : Run) → IsWellFormed old.script → is_history old.script old.steps ≡ true → new.script ≡ old.script → progress new ≡ round old.script (progress old) → is_still old.script (progress old) ≡ true → new ≡ old
+pub round_still : (old new : Run) → IsWellFormed old.script → is_history old.script old.steps ≡ true → new.script ≡ old.script
+    → progress new ≡ round old.script (progress old) → is_still old.script (progress old) ≡ true → new ≡ old
 round_still old new formed is same rounded still =
     let s = old.script in
-    let none = later-still s (round-later s (plain-from s formed) (progress old) (run-of s old.steps is)) (eqb-true (length (round s (progress old)).steps) (length (progress old).steps) still) in
+    let none = later-still s (round-later s (plain-from s formed) (progress old) (run-of s old.steps is))
+    (eqb-true (length (round s (progress old)).steps) (length (progress old).steps) still) in
     let steps = sym (reverse-reverse new.steps) ∙ ap (λ (p : Progress). reverse p.steps) (rounded ∙ none) ∙ reverse-reverse old.steps in
     λ i. record { script = same i; steps = steps i }

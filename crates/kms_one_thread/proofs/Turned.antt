@@ -22,18 +22,25 @@ few_steps t =
     let all = length-append (ids_of t Crtc) (ids_of t Plane ++ ids_of t Conn) in
     omega (arith, crtcs, planes, conns, routed, all)
 
-pub goes_back : (old new : Run) (client : ℕ) → legal old.script (machine old) (Return client) ≡ true → new ≡ gains old (Return client ∷ []) → progress new ≡ returns old.script client (progress old)
-goes_back old new client may after = progress_step old new (Return client) after ∙ sym (cond-true (legal old.script (machine old) (Return client)) (does old.script (progress old) (Return client)) (progress old) may)
+pub goes_back : (old new : Run) (client : ℕ) → legal old.script (machine old) (Return client) ≡ true → new ≡ gains old (Return client ∷ [])
+    → progress new ≡ returns old.script client (progress old)
+goes_back old new client may after = progress_step old new (Return client) after ∙ sym
+    (cond-true (legal old.script (machine old) (Return client)) (does old.script (progress old) (Return client)) (progress old) may)
 
-pub at_end : (old : Run) (client : ℕ) → is_at_end old.script (machine old) client ≡ true → progress old ≡ turn old.script (progress old) client
+pub at_end : (old : Run) (client : ℕ) → is_at_end old.script (machine old) client ≡ true → progress old
+    ≡ turn old.script (progress old) client
 unfolding turn
-at_end old client ended = sym (cond-true (is_at_end old.script (machine old) client) (progress old) (returns old.script client (settles old.script (gone old client))) ended)
+at_end old client ended = sym (cond-true (is_at_end old.script (machine old) client) (progress old)
+    (returns old.script client (settles old.script (gone old client))) ended)
 
-pub turned : (old went settled new : Run) (client : ℕ) → is_at_end old.script (machine old) client ≡ false → went.script ≡ old.script → settled.script ≡ went.script → progress went ≡ gone old client
-    → progress settled ≡ settles went.script (progress went) → progress new ≡ returns settled.script client (progress settled) → progress new ≡ turn old.script (progress old) client
+pub turned : (old went settled new : Run) (client : ℕ) → is_at_end old.script (machine old) client ≡ false → went.script ≡ old.script
+    → settled.script ≡ went.script → progress went ≡ gone old client
+    → progress settled ≡ settles went.script (progress went) → progress new ≡ returns settled.script client (progress settled)
+    → progress new ≡ turn old.script (progress old) client
 unfolding turn
 turned old went settled new client running same same2 one two three =
     let settle : progress settled ≡ settles old.script (gone old client) = two ∙ (λ i. settles (same i) (one i)) in
     three
     ∙ (λ i. returns ((same2 ∙ same) i) client (settle i))
-    ∙ sym (cond-false (is_at_end old.script (machine old) client) (progress old) (returns old.script client (settles old.script (gone old client))) running)
+    ∙ sym (cond-false (is_at_end old.script (machine old) client) (progress old)
+    (returns old.script client (settles old.script (gone old client))) running)

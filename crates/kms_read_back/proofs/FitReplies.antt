@@ -1,5 +1,6 @@
 -- Each reply of a history is one that a line can spell.
-use Rattle.std.proofs.Common.{◌≡◌, ℕ, zero, suc, ◌+◌, ◌*◌, ◌%◌, ◌<◌, ◌≤◌, ◌^◌, Bool, true, false, List, [], ◌∷◌, length, Option, Some, None, refl, sym, ap, ◌∙◌, subst, arith, inl, inr, ◌⊎◌, ⊎_elim}
+use Rattle.std.proofs.Common.{◌≡◌, ℕ, zero, suc, ◌+◌, ◌*◌, ◌%◌, ◌<◌, ◌≤◌, ◌^◌, Bool, true, false, List, [], ◌∷◌, length, Option, Some, None}
+use Rattle.std.proofs.Common.{refl, sym, ap, ◌∙◌, subst, arith, inl, inr, ◌⊎◌, ⊎_elim}
 use Rattle.std.specs.Prelude.{◌==◌, ◌&&◌, nat_lt, not, reverse, if◌then◌else◌}
 use Rattle.std.specs.List.{cons_option, filter_map}
 use Rattle.std.proofs.lemmas.Bool.{and_from, and_parts, false≢true, le-leb, ltb-true}
@@ -26,7 +27,9 @@ use Rattle.kms_model.specs.declared.replies.TheConstants.Denied.{INVALID_SIZE, N
 use Rattle.kms_model.specs.Firsts.{denied_if}
 use Rattle.kms_model.specs.Things.Kept.{area_bytes, is_bad_size, largest_bytes}
 use Rattle.kms_model.specs.Script.Words.{between}
-use Rattle.kms_model.specs.Device.Execution.{BufferInfo, add_fb, all_bytes, buffer_of, close_refusal, close_unless, destroy_refusal, execute, is_blob, is_framebuffer, is_made_fence, make_unless, new_buffer_refusal, signal_refusal, signal_unless}
+use Rattle.kms_model.specs.Device.Execution.{BufferInfo, add_fb, all_bytes, buffer_of, close_refusal, close_unless, destroy_refusal}
+use Rattle.kms_model.specs.Device.Execution.{execute, is_blob, is_framebuffer, is_made_fence, make_unless, new_buffer_refusal}
+use Rattle.kms_model.specs.Device.Execution.{signal_refusal, signal_unless}
 use Rattle.kms_model.specs.Device.Objects.{count_of, first_id, ids_of, object_id}
 use Rattle.kms_model.specs.Device.World.{thing_labelled}
 use Rattle.kms_model.specs.Machine.Commits.{asks_event, commit_at, commit_touches, last_below, lockable, previous}

@@ -1,5 +1,6 @@
 -- The lines of a report stand in order, each section behind those before it, and are put together to the same report.
-use Rattle.std.proofs.Common.{◌≡◌, ℕ, ◌+◌, ◌<◌, ◌≤◌, true, List, [], ◌∷◌, ◌++◌, map, Option, Some, None, Ok, refl, ap, ◌∙◌, subst, arith, inl, inr, ⊎_elim, append-nil, append_assoc}
+use Rattle.std.proofs.Common.{◌≡◌, ℕ, ◌+◌, ◌<◌, ◌≤◌, true, List, [], ◌∷◌, ◌++◌, map, Option, Some, None, Ok, refl, ap, ◌∙◌, subst, arith}
+use Rattle.std.proofs.Common.{inl, inr, ⊎_elim, append-nil, append_assoc}
 use Rattle.std.specs.List.{cons_option, filter_map, flat_map}
 use Rattle.std.specs.Prelude.{nat_le}
 use Rattle.std.proofs.lemmas.Bool.{cond-true, le-leb}
@@ -11,7 +12,9 @@ use Rattle.kms_model.specs.declared.reports.End.{End}
 use Rattle.kms_model.specs.declared.reports.Report.{Report}
 use Rattle.kms_model.specs.declared.reports.ReportLine.{ReportLine}
 use Rattle.kms_model.specs.declared.reports.ReportLine.TheVariants as says
-use Rattle.kms_model.specs.Report.ReportLines.{answer_said, end_said, entry_said, event_said, freed_said, grouped, grouped_where_read, if_it_may_stand, latch_said, least_behind, line_text, lines_of, may_stand, or_line, report_lines_read, report_read, report_row_read, report_text, step_said, with_line}
+use Rattle.kms_model.specs.Report.ReportLines.{answer_said, end_said, entry_said, event_said, freed_said, grouped, grouped_where_read}
+use Rattle.kms_model.specs.Report.ReportLines.{if_it_may_stand, latch_said, least_behind, line_text, lines_of, may_stand, or_line}
+use Rattle.kms_model.specs.Report.ReportLines.{report_lines_read, report_read, report_row_read, report_text, step_said, with_line}
 use Rattle.kms_model.specs.Script.InputLines.{Row, rows_of}
 use Rattle.kms_model.proofs.CrtcLemmas.{all_in}
 use Rattle.kms_model.proofs.Items.{IsIn}

@@ -11,14 +11,16 @@ use Rattle.kms_model.specs.declared.objects.Kind.{Kind}
 use Rattle.kms_model.specs.declared.replies.Event.{Event}
 use Rattle.kms_model.specs.declared.replies.Reply.{Reply}
 use Rattle.kms_model.specs.declared.replies.Step.{Step}
-use Rattle.kms_model.specs.declared.replies.Step.TheVariants.{Begin, Lock, BackOff, Relock, Refuse, Test, Swap, Make, Signal, Claim, Write, Flush, HwDone, Vblank, Cleanup, Read, Return, Stall}
+use Rattle.kms_model.specs.declared.replies.Step.TheVariants.{Begin, Lock, BackOff, Relock, Refuse, Test, Swap, Make, Signal, Claim, Write}
+use Rattle.kms_model.specs.declared.replies.Step.TheVariants.{Flush, HwDone, Vblank, Cleanup, Read, Return, Stall}
 use Rattle.kms_model.specs.declared.reports.End.{End}
 use Rattle.kms_model.specs.declared.reports.End.TheVariants.{Drained, Stalled, Open}
 use Rattle.kms_model.specs.declared.reports.ReportLine.{ReportLine}
 use Rattle.kms_model.specs.declared.reports.ReportLine.TheVariants as says
 use Rattle.kms_model.specs.Report.History.{named_object, step_words}
 use Rattle.kms_model.specs.Report.Replies.{reply_words}
-use Rattle.kms_model.specs.Report.ReportLines.{answer_read, client_event_read, digest_in, digest_word, end_read, ending_words, entry_read, freed_read, latch_read, line_text, open_read, report_line_read}
+use Rattle.kms_model.specs.Report.ReportLines.{answer_read, client_event_read, digest_in, digest_word, end_read, ending_words, entry_read}
+use Rattle.kms_model.specs.Report.ReportLines.{freed_read, latch_read, line_text, open_read, report_line_read}
 use Rattle.kms_model.specs.Script.CommandLines.{label_alone}
 use Rattle.kms_model.specs.Script.Grammar.{is_printable}
 use Rattle.kms_model.specs.Script.Schedules.{IsFitIndex, IsFitNumber, IsFitStep, greatest_number}
@@ -28,7 +30,8 @@ use Rattle.kms_words.proofs.Spaced.{line-fields}
 use Rattle.kms_script.proofs.Cutting.{field_of, number_of}
 use Rattle.kms_script.proofs.StepsRead.{line_is_read}
 use Rattle.kms_read_back.specs.ReadBack.{IsFitEnd, IsFitEvent, IsFitLabel, IsFitReply, IsLong}
-use Rattle.kms_read_back.proofs.Bodies.{ArePlain, AreSmall, IsWord, digest-back, digest-is_word, digest-length, fields-plain, label-word, number-word, object-word}
+use Rattle.kms_read_back.proofs.Bodies.{ArePlain, AreSmall, IsWord, digest-back, digest-is_word, digest-length, fields-plain, label-word}
+use Rattle.kms_read_back.proofs.Bodies.{number-word, object-word}
 use Rattle.kms_read_back.proofs.RepliesBack.{event-read, lone-read, reply-back, reply-plain}
 
 -- Lines without their line feeds

@@ -1,5 +1,6 @@
 -- Each reply that a line can spell is read back.
-use Rattle.std.proofs.Common.{◌≡◌, ℕ, ◌+◌, ◌-◌, ◌<◌, ◌≤◌, true, false, List, [], ◌∷◌, Some, None, refl, sym, ap, ◌∙◌, subst, arith, inl, inr}
+use Rattle.std.proofs.Common.{◌≡◌, ℕ, ◌+◌, ◌-◌, ◌<◌, ◌≤◌, true, false, List, [], ◌∷◌, Some, None, refl, sym, ap, ◌∙◌, subst, arith, inl}
+use Rattle.std.proofs.Common.{inr}
 use Rattle.std.specs.Prelude.{codes, nat_le, not, option_map}
 use Rattle.std.specs.Fmt.{decimal, digits}
 use Rattle.std.specs.List.{list_all}
@@ -15,7 +16,8 @@ use Rattle.kms_model.specs.declared.replies.Reply.TheVariants as reply
 use Rattle.kms_model.specs.Device.Objects.{first_id, index_of, kind_of, object_id}
 use Rattle.kms_model.specs.Report.History.{named_object}
 use Rattle.kms_model.specs.Report.Replies.{reply_words}
-use Rattle.kms_model.specs.Report.ReplyFields.{busy_read, event_fields, lone_number, lone_reply, named_id, numbered_reply, refusal_numbered, refusal_read, reply_of_word, reply_read, space_read}
+use Rattle.kms_model.specs.Report.ReplyFields.{busy_read, event_fields, lone_number, lone_reply, named_id, numbered_reply, refusal_numbered}
+use Rattle.kms_model.specs.Report.ReplyFields.{refusal_read, reply_of_word, reply_read, space_read}
 use Rattle.kms_model.specs.Report.Rules.{ENOMEM, EBUSY, errno_of}
 use Rattle.kms_model.specs.Request.Sets.{obj_id}
 use Rattle.kms_model.specs.Script.Grammar.{is_printable, object}

@@ -1,5 +1,6 @@
 -- The report of a history has values that its lines can spell, so its text is read back as it.
-use Rattle.std.proofs.Common.{◌≡◌, ℕ, Bool, true, false, List, [], ◌∷◌, length, map, take, Option, Some, None, Ok, refl, sym, ap, ◌∙◌, subst, arith, inl, inr, ⊎_elim}
+use Rattle.std.proofs.Common.{◌≡◌, ℕ, Bool, true, false, List, [], ◌∷◌, length, map, take, Option, Some, None, Ok, refl, sym, ap, ◌∙◌}
+use Rattle.std.proofs.Common.{subst, arith, inl, inr, ⊎_elim}
 use Rattle.std.specs.Prelude.{◌==◌, filter, reverse, if◌then◌else◌, All}
 use Rattle.std.specs.List.{flat_map}
 use Rattle.std.proofs.lemmas.List.{length-reverse}
@@ -23,13 +24,15 @@ use Rattle.kms_model.specs.Device.Serial.{Entry, command_of}
 use Rattle.kms_model.specs.Frames.FrameBytes.{frame_bytes}
 use Rattle.kms_model.specs.Headline.{entry_answered}
 use Rattle.kms_model.specs.Machine.Framebuffers.{freed}
-use Rattle.kms_model.specs.Machine.Histories.{at, client_numbers, is_dead, is_drained, is_history, journal, latched, read_by, replies, stalled_on}
+use Rattle.kms_model.specs.Machine.Histories.{at, client_numbers, is_dead, is_drained, is_history, journal, latched, read_by, replies}
+use Rattle.kms_model.specs.Machine.Histories.{stalled_on}
 use Rattle.kms_model.specs.Machine.State.{Machine, first_machine}
 use Rattle.kms_model.specs.Promises.{WaitsForFence}
 use Rattle.kms_model.specs.Report.History.{answers_to, stalled_name, text}
 use Rattle.kms_model.specs.Report.ReportLines.{report_read}
 use Rattle.kms_model.specs.Report.Right.{event_in}
-use Rattle.kms_model.specs.Report.SeenReport.{digest_shown, report_seen, seen_answer, seen_end, seen_entry, seen_events, seen_latch, seen_thing}
+use Rattle.kms_model.specs.Report.SeenReport.{digest_shown, report_seen, seen_answer, seen_end, seen_entry, seen_events, seen_latch}
+use Rattle.kms_model.specs.Report.SeenReport.{seen_thing}
 use Rattle.kms_model.specs.Script.Schedules.{IsFitNumber, IsFitStep}
 use Rattle.kms_model.specs.Script.Spelling.{name_word}
 use Rattle.kms_model.specs.Script.WellFormed.{IsWellFormed, is_label_in}
@@ -56,7 +59,8 @@ use Rattle.kms_told.proofs.EntriesRight.{entry-reply}
 use Rattle.kms_told.proofs.FreedRight.{was-freed}
 use Rattle.kms_told.proofs.Items.{filter-from, in-reverse}
 use Rattle.kms_told.proofs.Texts.{text-seen}
-use Rattle.kms_read_back.specs.ReadBack.{IsFitAnswer, IsFitDigest, IsFitEnd, IsFitEntry, IsFitEvent, IsFitFreed, IsFitLabel, IsFitLatch, IsFitReply, IsFitReport, IsFitTold, IsLong}
+use Rattle.kms_read_back.specs.ReadBack.{IsFitAnswer, IsFitDigest, IsFitEnd, IsFitEntry, IsFitEvent, IsFitFreed, IsFitLabel, IsFitLatch}
+use Rattle.kms_read_back.specs.ReadBack.{IsFitReply, IsFitReport, IsFitTold, IsLong}
 use Rattle.kms_read_back.proofs.DigestBytes.{digests-are-bytes}
 use Rattle.kms_read_back.proofs.FitReplies.{from-map, replies-fit}
 use Rattle.kms_read_back.proofs.Grouping.{read-back}

@@ -8,7 +8,13 @@ use Rattle.kms_model.specs.declared.objects.PlaneInfo.{PlaneInfo}
 use Rattle.kms_model.specs.declared.objects.Topology.{Topology}
 use Rattle.kms_model.specs.declared.pictures.FbInfo.{FbInfo}
 use Rattle.kms_model.specs.declared.replies.Refusal.{Refusal}
-use Rattle.kms_model.specs.declared.replies.TheConstants.Refusal.{UNKNOWN_FLAG, ASYNC_FLIP, TEST_WITH_EVENT, NO_OBJECT, NO_PROPERTY, IMMUTABLE_PROPERTY, INVALID_VALUE, SECOND_IN_FENCE, EVENT_WITHOUT_CRTC, FRAMEBUFFER_XOR_CRTC, CRTC_NOT_POSSIBLE, FORMAT_NOT_SUPPORTED, DESTINATION_TOO_FAR, SOURCE_OUTSIDE_FRAMEBUFFER, SWITCHES_CRTC, ACTIVE_WITHOUT_MODE, SIGNAL_WHILE_OFF, CONNECTOR_NOT_POSSIBLE, CLONED_CONNECTORS, MODE_XOR_CONNECTOR, CRTC_NOT_ENABLED, SCALED, FRACTIONAL_SOURCE, MODESET_NOT_ALLOWED}
+use Rattle.kms_model.specs.declared.replies.TheConstants.Refusal.{UNKNOWN_FLAG, ASYNC_FLIP, TEST_WITH_EVENT, NO_OBJECT, NO_PROPERTY}
+use Rattle.kms_model.specs.declared.replies.TheConstants.Refusal.{IMMUTABLE_PROPERTY, INVALID_VALUE, SECOND_IN_FENCE, EVENT_WITHOUT_CRTC}
+use Rattle.kms_model.specs.declared.replies.TheConstants.Refusal.{FRAMEBUFFER_XOR_CRTC, CRTC_NOT_POSSIBLE, FORMAT_NOT_SUPPORTED}
+use Rattle.kms_model.specs.declared.replies.TheConstants.Refusal.{DESTINATION_TOO_FAR, SOURCE_OUTSIDE_FRAMEBUFFER, SWITCHES_CRTC}
+use Rattle.kms_model.specs.declared.replies.TheConstants.Refusal.{ACTIVE_WITHOUT_MODE, SIGNAL_WHILE_OFF, CONNECTOR_NOT_POSSIBLE}
+use Rattle.kms_model.specs.declared.replies.TheConstants.Refusal.{CLONED_CONNECTORS, MODE_XOR_CONNECTOR, CRTC_NOT_ENABLED, SCALED}
+use Rattle.kms_model.specs.declared.replies.TheConstants.Refusal.{FRACTIONAL_SOURCE, MODESET_NOT_ALLOWED}
 use Rattle.kms_model.specs.declared.scripts.Assign.{Assign}
 use Rattle.kms_model.specs.declared.scripts.Request.{Request}
 use Rattle.kms_model.specs.declared.states.PlaneState.{PlaneState}
@@ -23,11 +29,15 @@ use Rattle.kms_model.specs.Device.States.{crtc_at, mode_at, plane_at}
 use Rattle.kms_model.specs.Firsts.{first_some, number_if, or_else, refused_if}
 use Rattle.kms_model.specs.Frames.Rectangles.{fits_source}
 use Rattle.kms_model.specs.Request.Apply.{after}
-use Rattle.kms_model.specs.Request.Checks.{clone_refusal_at, conn_refusal_at, conns_on, crtc_refusal_at, event_refusal, has_crtc, has_sizes, has_start, is_active, is_beyond, late_refusal, modeset_refusal, placed_refusal, plane_refusal, plane_refusal_at, plane_refusal_with, route_refusal_at, shown_refusal, shown_refusal_at, switches_crtc, with_ids}
+use Rattle.kms_model.specs.Request.Checks.{clone_refusal_at, conn_refusal_at, conns_on, crtc_refusal_at, event_refusal, has_crtc, has_sizes}
+use Rattle.kms_model.specs.Request.Checks.{has_start, is_active, is_beyond, late_refusal, modeset_refusal, placed_refusal, plane_refusal}
+use Rattle.kms_model.specs.Request.Checks.{plane_refusal_at, plane_refusal_with, route_refusal_at, shown_refusal, shown_refusal_at}
+use Rattle.kms_model.specs.Request.Checks.{switches_crtc, with_ids}
 use Rattle.kms_model.specs.Request.Flags.{allows_modeset, is_async, is_test, wants_event}
 use Rattle.kms_model.specs.Request.Lookups.{look_up}
 use Rattle.kms_model.specs.Request.Named.{differs, names, needs_modeset}
-use Rattle.kms_model.specs.Request.Refusals.{assign_refusal, assigns_refusal, early_refusal, flags_refusal, has_property, is_immutable, is_second_fence, is_value, own_refusal}
+use Rattle.kms_model.specs.Request.Refusals.{assign_refusal, assigns_refusal, early_refusal, flags_refusal, has_property, is_immutable}
+use Rattle.kms_model.specs.Request.Refusals.{is_second_fence, is_value, own_refusal}
 use Rattle.kms_model.specs.Request.Touched.{asks_signal}
 use Rattle.kms_model.specs.Request.Verdict.{early_in, late_in, verdict}
 use Rattle.kms_model.specs.Script.Grammar.{format_bit}

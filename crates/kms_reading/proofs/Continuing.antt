@@ -1,5 +1,6 @@
 -- One line more of a report: what the lines so far say, with it and with those behind it.
-use Rattle.std.proofs.Common.{◌≡◌, ℕ, ◌+◌, ◌<◌, Bool, true, false, List, [], ◌∷◌, ◌++◌, length, Option, Some, None, refl, sym, ap, ◌∙◌, subst, append_assoc, arith}
+use Rattle.std.proofs.Common.{◌≡◌, ℕ, ◌+◌, ◌<◌, Bool, true, false, List, [], ◌∷◌, ◌++◌, length, Option, Some, None, refl, sym, ap, ◌∙◌}
+use Rattle.std.proofs.Common.{subst, append_assoc, arith}
 use Rattle.std.proofs.lemmas.Bool.{eqb-true, leb-true, ne_eqb, not-true, not_from_false}
 use Rattle.std.proofs.lemmas.List.{append-nil}
 use Rattle.std.specs.Prelude.{◌==◌, Result, Ok, Err, is_some, nat_le, not, if◌then◌else◌}
@@ -11,7 +12,9 @@ use Rattle.kms_model.specs.declared.reports.End.{End}
 use Rattle.kms_model.specs.declared.reports.Report.{Report}
 use Rattle.kms_model.specs.declared.reports.ReportLine.{ReportLine}
 use Rattle.kms_model.specs.declared.reports.ReportLine.TheVariants as says
-use Rattle.kms_model.specs.Report.ReportLines.{answer_said, end_said, entry_said, event_said, freed_said, grouped_where_read, if_it_may_stand, latch_said, least_behind, may_stand, or_line, report_line_read, report_lines_read, report_read, report_row_read, step_said, with_line}
+use Rattle.kms_model.specs.Report.ReportLines.{answer_said, end_said, entry_said, event_said, freed_said, grouped_where_read}
+use Rattle.kms_model.specs.Report.ReportLines.{if_it_may_stand, latch_said, least_behind, may_stand, or_line, report_line_read}
+use Rattle.kms_model.specs.Report.ReportLines.{report_lines_read, report_read, report_row_read, step_said, with_line}
 use Rattle.kms_model.specs.Script.InputLines.{Row, rows_of}
 use Rattle.kms_reading.specs.declared.reports.Said.{Said}
 use Rattle.kms_reading.specs.Reports.{continued, end_after, is_sound, no_lines, report_with, with_said}

@@ -1,5 +1,6 @@
 -- An input with a report is the text of its script, the line `report`, and the bytes behind the place that is told.
-use Rattle.std.proofs.Common.{◌≡◌, ℕ, ◌+◌, inl, inr, Bool, true, false, List, [], ◌∷◌, ◌++◌, length, drop, length-append, append_assoc, cond, Ok, Err, refl, sym, ap, ◌∙◌, arith}
+use Rattle.std.proofs.Common.{◌≡◌, ℕ, ◌+◌, inl, inr, Bool, true, false, List, [], ◌∷◌, ◌++◌, length, drop, length-append, append_assoc}
+use Rattle.std.proofs.Common.{cond, Ok, Err, refl, sym, ap, ◌∙◌, arith}
 use Rattle.std.specs.Prelude.{◌==◌, Result, codes, if◌then◌else◌, nat_lt, not}
 use Rattle.std.specs.List.{flat_map, list_all}
 use Rattle.std.specs.Str.{bytes_eq}
@@ -12,7 +13,8 @@ use Rattle.kms_model.specs.Script.Grammar.{is_printable}
 use Rattle.kms_model.specs.Script.InputLines.{Fault, Row, before_rows, input_limit, rows_of}
 use Rattle.kms_model.specs.Script.Schedules.{Parts, behind_script, ends_script, input_of, parts_after}
 use Rattle.kms_model.specs.Script.Spelling.{spelling}
-use Rattle.kms_model.specs.Script.WholeInput.{Draft, Lined, blank_draft, is_nil, line_after, lines_after, script_in, script_limit, script_line, sized}
+use Rattle.kms_model.specs.Script.WholeInput.{Draft, Lined, blank_draft, is_nil, line_after, lines_after, script_in, script_limit}
+use Rattle.kms_model.specs.Script.WholeInput.{script_line, sized}
 use Rattle.kms_script.proofs.Accepted.{either_ok, ok_same, unless_ok}
 use Rattle.kms_script.proofs.Drafts.{last_is_late}
 use Rattle.kms_script.proofs.Fronts.{front_text, same_parts}

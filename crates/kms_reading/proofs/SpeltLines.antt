@@ -1,5 +1,6 @@
 -- A line of a report that was read is written as it stood.
-use Rattle.std.proofs.Common.{◌≡◌, ℕ, inl, inr, true, List, [], ◌∷◌, ◌++◌, append_assoc, cond, Option, Some, None, refl, sym, ap, ◌∙◌, subst}
+use Rattle.std.proofs.Common.{◌≡◌, ℕ, inl, inr, true, List, [], ◌∷◌, ◌++◌, append_assoc, cond, Option, Some, None, refl, sym, ap, ◌∙◌}
+use Rattle.std.proofs.Common.{subst}
 use Rattle.std.specs.Prelude.{codes, option_map, ⊤}
 use Rattle.std.specs.Fmt.{decimal}
 use Rattle.std.specs.Str.{bytes_eq}
@@ -10,7 +11,8 @@ use Rattle.kms_model.specs.declared.reports.ReportLine.{ReportLine}
 use Rattle.kms_model.specs.declared.reports.ReportLine.TheVariants as says
 use Rattle.kms_model.specs.Report.Replies.{reply_words}
 use Rattle.kms_model.specs.Report.ReplyFields.{event_fields, lone_number, reply_read, word32_at, word64_at}
-use Rattle.kms_model.specs.Report.ReportLines.{answer_read, client_event_read, digest_in, digest_word, end_read, ending_words, entry_read, freed_read, latch_read, line_text, open_read, report_line_read}
+use Rattle.kms_model.specs.Report.ReportLines.{answer_read, client_event_read, digest_in, digest_word, end_read, ending_words, entry_read}
+use Rattle.kms_model.specs.Report.ReportLines.{freed_read, latch_read, line_text, open_read, report_line_read}
 use Rattle.kms_model.specs.Report.TextLines.{line}
 use Rattle.kms_model.specs.Script.CommandLines.{label_alone}
 use Rattle.kms_model.specs.Script.Schedules.{step_read}

@@ -1,5 +1,6 @@
 -- A reply that was read of the fields at the end of a line is written as these fields.
-use Rattle.std.proofs.Common.{◌≡◌, ℕ, ◌<◌, inl, inr, Bool, true, false, List, [], ◌∷◌, ◌++◌, cond, Option, Some, refl, sym, ap, ◌∙◌, subst, arith}
+use Rattle.std.proofs.Common.{◌≡◌, ℕ, ◌<◌, inl, inr, Bool, true, false, List, [], ◌∷◌, ◌++◌, cond, Option, Some, refl, sym, ap, ◌∙◌, subst}
+use Rattle.std.proofs.Common.{arith}
 use Rattle.std.specs.Prelude.{codes, nat_lt, option_map, if◌then◌else◌}
 use Rattle.std.specs.Fmt.{decimal, digits}
 use Rattle.std.specs.Str.{bytes_eq}
@@ -10,7 +11,8 @@ use Rattle.kms_model.specs.declared.replies.Reply.{Reply}
 use Rattle.kms_model.specs.declared.replies.Reply.TheVariants as reply
 use Rattle.kms_model.specs.Device.Objects.{object_id}
 use Rattle.kms_model.specs.Report.Replies.{kind_name, object_name, reply_words}
-use Rattle.kms_model.specs.Report.ReplyFields.{busy_read, event_fields, lone_number, lone_reply, named_id, numbered_reply, refusal_numbered, refusal_read, reply_of_word, reply_read, space_read, word32_at, word64_at}
+use Rattle.kms_model.specs.Report.ReplyFields.{busy_read, event_fields, lone_number, lone_reply, named_id, numbered_reply, refusal_numbered}
+use Rattle.kms_model.specs.Report.ReplyFields.{refusal_read, reply_of_word, reply_read, space_read, word32_at, word64_at}
 use Rattle.kms_model.specs.Report.Rules.{ENOMEM, EBUSY, errno_of}
 use Rattle.kms_model.specs.Script.Grammar.{object}
 use Rattle.kms_model.specs.Script.Schedules.{greatest_number}

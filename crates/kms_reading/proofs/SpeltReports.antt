@@ -1,5 +1,6 @@
 -- A report that was read has its lines in order, and its text is what was read.
-use Rattle.std.proofs.Common.{◌≡◌, ℕ, ◌+◌, ◌<◌, ◌≤◌, Bool, true, false, List, [], ◌∷◌, ◌++◌, map, Option, Some, None, Ok, Err, refl, sym, ap, ◌∙◌, subst, arith}
+use Rattle.std.proofs.Common.{◌≡◌, ℕ, ◌+◌, ◌<◌, ◌≤◌, Bool, true, false, List, [], ◌∷◌, ◌++◌, map, Option, Some, None, Ok, Err, refl, sym}
+use Rattle.std.proofs.Common.{ap, ◌∙◌, subst, arith}
 use Rattle.std.specs.Prelude.{◌==◌, Result, All, if◌then◌else◌}
 use Rattle.std.specs.List.{AllByRecursion, cons_option, filter_map, flat_map}
 use Rattle.std.proofs.lemmas.Bool.{and_from, eqb-true, leb-true}
@@ -7,7 +8,10 @@ use Rattle.std.proofs.lemmas.List.Elements.{recursion_from_All}
 use Rattle.kms_model.specs.declared.reports.Report.{Report}
 use Rattle.kms_model.specs.declared.reports.ReportLine.{ReportLine}
 use Rattle.kms_model.specs.declared.reports.ReportLine.TheVariants as says
-use Rattle.kms_model.specs.Report.ReportLines.{answer_said, entry_said, event_said, freed_said, grouped, grouped_where_read, if_it_may_stand, latch_said, least_behind, letter_place, line_text, lines_of, may_stand, or_line, report_line_read, report_lines_read, report_read, report_row_read, report_text, step_said, with_line}
+use Rattle.kms_model.specs.Report.ReportLines.{answer_said, entry_said, event_said, freed_said, grouped, grouped_where_read}
+use Rattle.kms_model.specs.Report.ReportLines.{if_it_may_stand, latch_said, least_behind, letter_place, line_text, lines_of, may_stand}
+use Rattle.kms_model.specs.Report.ReportLines.{or_line, report_line_read, report_lines_read, report_read, report_row_read, report_text}
+use Rattle.kms_model.specs.Report.ReportLines.{step_said, with_line}
 use Rattle.kms_model.specs.Script.InputLines.{Row, rows_of}
 use Rattle.kms_script.proofs.Inverted.{if_some, some_same}
 use Rattle.kms_script.proofs.SpelledRows.{all_ended, ended_text, rows_spell}

@@ -9,7 +9,8 @@ use Rattle.kms_model.specs.declared.objects.Mode.{Mode}
 use Rattle.kms_model.specs.declared.objects.Topology.{Topology}
 use Rattle.kms_model.specs.declared.pictures.Layer.{Layer}
 use Rattle.kms_model.specs.Frames.Pictures.{put_plane, seen_on}
-use Rattle.kms_model.specs.Machine.Registers.{PlaneWords, Registers, crtc_register, first_crtc_words, first_plane_words, is_copied, latched_registers, plane_in, plane_register}
+use Rattle.kms_model.specs.Machine.Registers.{PlaneWords, Registers, crtc_register, first_crtc_words, first_plane_words, is_copied}
+use Rattle.kms_model.specs.Machine.Registers.{latched_registers, plane_in, plane_register}
 use Rattle.kms_regs.specs.Latches.{LeavesTheOthers, MovesCrtc, NoPlaneMoves, ShowsTheShadow}
 use Rattle.kms_regs.proofs.BankLemmas.{copied-copied, kept-copied}
 use Rattle.kms_regs.proofs.Rows.{other_id, read_here, read_past}
@@ -36,7 +37,8 @@ kept_words : (t : Topology) (shadow live : Registers) (crtc i : ℕ) → is_copi
 kept_words t shadow live crtc i not = kept-copied shadow live crtc 0 (length t.planes) i (first_plane_words (object_id Plane i)) not
 
 shows_plane : (t : Topology) (shadow live : Registers) (crtc i : ℕ) (m : Mode) (ls : List (ℕ × Layer)) → i < length t.planes
-    → put_at m crtc (object_id Plane i) (plane_register (latched_registers t shadow live crtc) (object_id Plane i)) ls ≡ put_at m crtc (object_id Plane i) (plane_register shadow (object_id Plane i)) ls
+    → put_at m crtc (object_id Plane i) (plane_register (latched_registers t shadow live crtc) (object_id Plane i)) ls
+    ≡ put_at m crtc (object_id Plane i) (plane_register shadow (object_id Plane i)) ls
 shows_plane t shadow live crtc i m ls low =
     let plane : ℕ = object_id Plane i in
     elim (cases_Bool (is_copied shadow live crtc plane)) [
@@ -62,15 +64,30 @@ on_none : (shadow live : Registers) (plane crtc other : ℕ) → crtc ≢ 0 → 
     → ((plane_register live plane).crtc ≢ other) × ((plane_register shadow plane).crtc ≢ other)
 on_none shadow live plane crtc other some some_other differ still is =
     elim (or_cases ((plane_register live plane).crtc == crtc) ((plane_register shadow plane).crtc == crtc) is) [
-      | inl first ↦ (let here : (plane_register live plane).crtc ≡ crtc = equal_of (plane_register live plane).crtc crtc first in
-          ((λ e. differ (sym e ∙ here)), (λ e. still (record { live_on_one = λ z. some (sym here ∙ z); shadow_on_one = λ z. some_other (sym e ∙ z); on_another = λ same. differ (sym e ∙ sym same ∙ here) }))))
-      | inr second ↦ (let here : (plane_register shadow plane).crtc ≡ crtc = equal_of (plane_register shadow plane).crtc crtc second in
-          ((λ e. still (record { live_on_one = λ z. some_other (sym e ∙ z); shadow_on_one = λ z. some (sym here ∙ z); on_another = λ same. differ (sym e ∙ same ∙ here) })), (λ e. differ (sym e ∙ here))))
+      | inl first ↦ (let here : (plane_register live plane).crtc ≡ crtc = equal_of (plane_register live plane).crtc crtc first in (
+        (λ e. differ (sym e ∙ here)),
+        (λ e. still (record {
+          live_on_one = λ z. some (sym here ∙ z);
+          shadow_on_one = λ z. some_other (sym e ∙ z);
+          on_another = λ same. differ
+              (sym e ∙ sym same ∙ here);
+        })),
+      ))
+      | inr second ↦ (let here : (plane_register shadow plane).crtc ≡ crtc = equal_of (plane_register shadow plane).crtc crtc second in (
+        (λ e. still (record {
+          live_on_one = λ z. some_other (sym e ∙ z);
+          shadow_on_one = λ z. some (sym here ∙ z);
+          on_another = λ same.
+              differ (sym e ∙ same ∙ here);
+        })),
+        (λ e. differ (sym e ∙ here)),
+      ))
     ]
 
 leaves_plane : (t : Topology) (shadow live : Registers) (crtc other i : ℕ) (m : Mode) (ls : List (ℕ × Layer)) → crtc ≢ 0 → other ≢ 0
     → other ≢ crtc → NoPlaneMoves t shadow live → i < length t.planes
-    → put_at m other (object_id Plane i) (plane_register (latched_registers t shadow live crtc) (object_id Plane i)) ls ≡ put_at m other (object_id Plane i) (plane_register live (object_id Plane i)) ls
+    → put_at m other (object_id Plane i) (plane_register (latched_registers t shadow live crtc) (object_id Plane i)) ls
+    ≡ put_at m other (object_id Plane i) (plane_register live (object_id Plane i)) ls
 leaves_plane t shadow live crtc other i m ls some some_other differ still low =
     let plane : ℕ = object_id Plane i in
     elim (cases_Bool (is_copied shadow live crtc plane)) [
@@ -88,4 +105,5 @@ leaves t shadow live crtc still other differ =
     let apart : other_crtc ≢ id = λ e. differ (omega (arith, e)) in
     decoded_alike t (latched_registers t shadow live id) live other_crtc
     (read_past first_crtc_words (crtc_register shadow id) live.crtcs id other_crtc (λ e. apart (sym e)))
-    (λ m i ls low. leaves_plane t shadow live id other_crtc i m ls (λ z. absurd (omega (arith, z))) (λ z. absurd (omega (arith, z))) apart still low)
+    (λ m i ls low. leaves_plane t shadow live id other_crtc i m ls (λ z. absurd (omega (arith, z))) (λ z. absurd (omega (arith, z))) apart
+    still low)

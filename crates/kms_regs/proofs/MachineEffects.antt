@@ -1,5 +1,6 @@
 -- A register file that stands for a machine's device goes on standing for it, step by step of the machine.
-use Rattle.std.proofs.Common.{◌≡◌, ℕ, ◌+◌, ◌<◌, List, [], ◌∷◌, Bool, true, false, Option, Some, None, inl, inr, arith, refl, sym, ap, ◌∙◌, if◌then◌else◌}
+use Rattle.std.proofs.Common.{◌≡◌, ℕ, ◌+◌, ◌<◌, List, [], ◌∷◌, Bool, true, false, Option, Some, None, inl, inr, arith, refl, sym, ap, ◌∙◌}
+use Rattle.std.proofs.Common.{if◌then◌else◌}
 use Rattle.std.specs.Prelude.{◌&&◌, ◌==◌, not, nat_le}
 use Rattle.std.proofs.lemmas.Bool.{cases_Bool, false≢true, le-leb}
 use borrow.Author.Tests.{le-ltb, lt-ltb}
@@ -10,7 +11,8 @@ use Rattle.kms_model.specs.declared.replies.Event.{Event}
 use Rattle.kms_model.specs.declared.replies.Reply.{Reply}
 use Rattle.kms_model.specs.declared.replies.Reply.TheVariants as reply
 use Rattle.kms_model.specs.declared.replies.Step.{Step}
-use Rattle.kms_model.specs.declared.replies.Step.TheVariants.{Begin, Lock, BackOff, Relock, Refuse, Test, Swap, Make, Signal, Claim, Write, Flush, HwDone, Vblank, Cleanup, Read, Return, Stall}
+use Rattle.kms_model.specs.declared.replies.Step.TheVariants.{Begin, Lock, BackOff, Relock, Refuse, Test, Swap, Make, Signal, Claim, Write}
+use Rattle.kms_model.specs.declared.replies.Step.TheVariants.{Flush, HwDone, Vblank, Cleanup, Read, Return, Stall}
 use Rattle.kms_model.specs.declared.scripts.Command.{Command}
 use Rattle.kms_model.specs.declared.scripts.Command.TheVariants as command
 use Rattle.kms_model.specs.declared.scripts.Request.{Request}
@@ -21,7 +23,9 @@ use Rattle.kms_model.specs.Device.Execution.{execute}
 use Rattle.kms_model.specs.Device.Objects.{object_id, is_id_of}
 use Rattle.kms_model.specs.Device.World.{thing_labelled}
 use Rattle.kms_model.specs.Machine.Commits.{asks_event, id_of_thing, new_connector, new_crtc, new_plane, out_fence_of}
-use Rattle.kms_model.specs.Machine.Effects.{answers, blanks, counts_vblank, delivers, delivers_if, fence_signalled, flushes, joins_if, latches, latches_picture, locked, made_thing, next, reads, refused, relocked, signalled_by, signals, swapped_state}
+use Rattle.kms_model.specs.Machine.Effects.{answers, blanks, counts_vblank, delivers, delivers_if, fence_signalled, flushes, joins_if}
+use Rattle.kms_model.specs.Machine.Effects.{latches, latches_picture, locked, made_thing, next, reads, refused, relocked, signalled_by}
+use Rattle.kms_model.specs.Machine.Effects.{signals, swapped_state}
 use Rattle.kms_model.specs.Machine.Registers.{CrtcWords, crtc_register, crtc_words, is_on_in, plane_register, plane_words}
 use Rattle.kms_model.specs.Machine.State.{DeviceState, Machine, command_at, count_at, doing_at, go_at, holder_at, request_at, unread_at}
 use Rattle.kms_model.specs.Machine.Steps.{contended}
@@ -44,7 +48,8 @@ pub latch_stands : (t : Topology) (m : Machine) (k crtc count : ℕ) (f : Regist
 unfolding latches
 latch_stands t m k crtc count f stands =
     let shown : Machine = latches_picture t m k crtc count in
-    signalled t (delivers_if t shown k crtc count) (out_fence_of t m.device.commits k crtc) f (delivered t shown k crtc count (asks_event t m.device.commits k) f stands)
+    signalled t (delivers_if t shown k crtc count) (out_fence_of t m.device.commits k crtc) f
+    (delivered t shown k crtc count (asks_event t m.device.commits k) f stands)
 
 -- a flush: the CRTC is on in its shadow words exactly where it is in the commit's new state
 pub flush_stands : (t : Topology) (m : Machine) (k crtc : ℕ) (f : RegisterFile)
@@ -165,7 +170,9 @@ write_plane_follows s m k index old new stands writes = rw (no_crtc index) (writ
 
 pub write_crtc_follows : (s : Script) (m : Machine) (k index : ℕ) (old new : RegisterFile) → index < 4
     → StandsForDevice s.topology m.device old
-    → WritesCrtc old new index (new_connector s.topology m.device.commits k (object_id Crtc index)) (new_crtc s.topology m.device.commits k (object_id Crtc index)) → StandsForDevice s.topology (next s m (Write k Crtc index)).device new
+    → WritesCrtc old new index (new_connector s.topology m.device.commits k (object_id Crtc index))
+    (new_crtc s.topology m.device.commits k (object_id Crtc index))
+    → StandsForDevice s.topology (next s m (Write k Crtc index)).device new
 unfolding next
 write_crtc_follows s m k index old new low stands writes = rw (of_crtc index low) (writes s.topology m.device stands)
 
@@ -203,14 +210,17 @@ latch_recorded t m k crtc count =
 
 pub flush_recorded : (s : Script) (m : Machine) (k index : ℕ)
     → (new_crtc s.topology m.device.commits k (object_id Crtc index)).active ≡ false
-    → (next s m (Flush k Crtc index)).records.latches ≡ latch_of s.topology m.device k (object_id Crtc index) (count_at m.device (object_id Crtc index)) ∷ m.records.latches
+    → (next s m (Flush k Crtc index)).records.latches
+    ≡ latch_of s.topology m.device k (object_id Crtc index) (count_at m.device (object_id Crtc index)) ∷ m.records.latches
 unfolding next
 flush_recorded s m k index off = rw off (latch_recorded s.topology _ k (object_id Crtc index) (count_at m.device (object_id Crtc index)))
 
 pub vblank_recorded : (s : Script) (m : Machine) (k index : ℕ) → go_at m.device (object_id Crtc index) ≡ Some k
-    → (next s m (Vblank Crtc index)).records.latches ≡ latch_of s.topology m.device k (object_id Crtc index) (count_at m.device (object_id Crtc index) + 1) ∷ m.records.latches
+    → (next s m (Vblank Crtc index)).records.latches
+    ≡ latch_of s.topology m.device k (object_id Crtc index) (count_at m.device (object_id Crtc index) + 1) ∷ m.records.latches
 unfolding next
-vblank_recorded s m k index has = rw has (latch_recorded s.topology (counts_vblank m (object_id Crtc index)) k (object_id Crtc index) (count_at m.device (object_id Crtc index) + 1))
+vblank_recorded s m k index has = rw has (latch_recorded s.topology (counts_vblank m (object_id Crtc index)) k (object_id Crtc index)
+    (count_at m.device (object_id Crtc index) + 1))
 
 -- What the calls ask for
 

@@ -1,5 +1,6 @@
 -- Tables with a row for each index.
-use Rattle.std.proofs.Common.{◌≡◌, ◌≢◌, ℕ, zero, suc, ◌+◌, ◌<◌, Bool, true, false, List, [], ◌∷◌, length, get_or, arith, refl, sym, ap, ◌∙◌, inl, inr, if◌then◌else◌}
+use Rattle.std.proofs.Common.{◌≡◌, ◌≢◌, ℕ, zero, suc, ◌+◌, ◌<◌, Bool, true, false, List, [], ◌∷◌, length, get_or, arith, refl, sym, ap, ◌∙◌}
+use Rattle.std.proofs.Common.{inl, inr, if◌then◌else◌}
 use Rattle.std.specs.Prelude.{◌==◌, slice_set}
 use Rattle.std.proofs.lemmas.Bool.{cases_eq}
 use Rattle.std.proofs.lemmas.Bool.Decides.{eqb_tells}
@@ -28,7 +29,8 @@ pub read-with_ids : {A : Type 0} (d : A) (xs : List A) (from index at : ℕ) →
 unfolding read
 read-with_ids d [] from index at is = refl
 read-with_ids d (x ∷ xs) from zero at is = read_here d x (with_ids (from + 1) xs) from at (omega (arith, is))
-read-with_ids d (x ∷ xs) from (suc index) at is = read_past d x (with_ids (from + 1) xs) from at (λ same. absurd (omega (arith, is, same))) ∙ read-with_ids d xs (from + 1) index at (omega (arith, is))
+read-with_ids d (x ∷ xs) from (suc index) at is = read_past d x (with_ids (from + 1) xs) from at (λ same. absurd (omega (arith, is, same)))
+    ∙ read-with_ids d xs (from + 1) index at (omega (arith, is))
 
 -- a row in front is a value at an index
 pub read-set : {A : Type 0} (d x : A) (xs : List A) (from place index : ℕ) → place < length xs
@@ -37,11 +39,13 @@ read-set d x xs from place index within =
     elim (cases_eq place index) [
       | inl same ↦
           read_here d x (with_ids from xs) (from + place) (from + index) (omega (arith, same))
-          ∙ sym (read-with_ids d (slice_set xs place x) from index (from + index) refl ∙ (ap (λ (i : ℕ). get_or (slice_set xs place x) i d) (sym same) ∙ get_or-set_same xs place x d within))
+          ∙ sym (read-with_ids d (slice_set xs place x) from index (from + index) refl ∙
+          (ap (λ (i : ℕ). get_or (slice_set xs place x) i d) (sym same) ∙ get_or-set_same xs place x d within))
       | inr other ↦
           read_past d x (with_ids from xs) (from + place) (from + index) (λ same. absurd (other (omega (arith, same))))
           ∙ (read-with_ids d xs from index (from + index) refl
-          ∙ sym (read-with_ids d (slice_set xs place x) from index (from + index) refl ∙ get_or-set_other xs place index x d (λ same. absurd (other (sym same)))))
+          ∙ sym (read-with_ids d (slice_set xs place x) from index (from + index) refl ∙ get_or-set_other xs place index x d
+          (λ same. absurd (other (sym same)))))
     ]
 
 -- what stands at each of four places, and is meant behind them

@@ -15,7 +15,8 @@ three_parts bytes red green blue long reds greens blues =
     let both : length (red ++ green) ≡ 512 = omega (arith, length-append red green, reds, greens) in
     let two : after 256 one green ≡ (red ++ green) ++ rest =
     ap (λ (front : List ℕ). front ++ (green ++ rest)) (take_at red (drop 256 bytes) 256 reds) ∙ sym (append_assoc red green rest) in
-    let all : length ((red ++ green) ++ rest) ≤ 768 = omega (arith, length-append (red ++ green) rest, length-drop 512 one, both, one_long) in
+    let all : length ((red ++ green) ++ rest) ≤ 768 = omega (arith, length-append (red ++ green) rest, length-drop 512 one, both, one_long)
+    in
     ap (λ (xs : List ℕ). after 512 xs blue) two
     ∙ ap (λ (front : List ℕ). front ++ (blue ++ drop 768 ((red ++ green) ++ rest))) (take_at (red ++ green) rest 512 both)
     ∙ ap (λ (end : List ℕ). (red ++ green) ++ (blue ++ end)) (drop_all 768 ((red ++ green) ++ rest) all)

@@ -10,7 +10,8 @@ use Rattle.kms_model.specs.declared.states.CrtcState.{CrtcState}
 use Rattle.kms_model.specs.declared.states.PlaneState.{PlaneState}
 use Rattle.kms_model.specs.Device.Modes.{full_hd}
 use Rattle.kms_model.specs.Device.Objects.{object_id}
-use Rattle.kms_model.specs.Machine.Registers.{CrtcWords, crtc_words, first_crtc_words, first_plane_words, gamma_in_words, mode_in_words, plane_in, plane_words, words_of_bytes}
+use Rattle.kms_model.specs.Machine.Registers.{CrtcWords, crtc_words, first_crtc_words, first_plane_words, gamma_in_words, mode_in_words}
+use Rattle.kms_model.specs.Machine.Registers.{plane_in, plane_words, words_of_bytes}
 
 -- a CRTC that is on, or off, with a mode and a gamma table, if any
 abbrev crtc : Bool → Option Mode → Option Gamma → CrtcState
@@ -24,7 +25,8 @@ words_of_full_hd = crtc_words 300 (crtc true (Some full_hd) None)
 words_of_a_mode_are_its_bytes : words_of_full_hd ≡ record {
   active = 1;
   conn = 300;
-  mode = 0x00024414 ∷ 0x07d80780 ∷ 0x08980804 ∷ 0x04380000 ∷ 0x0441043c ∷ 0x00000465 ∷ 60 ∷ 5 ∷ 64 ∷ 0x30323931 ∷ 0x38303178 ∷ 0x30 ∷ 0 ∷ 0 ∷ 0 ∷ 0 ∷ 0 ∷ [];
+  mode = 0x00024414 ∷ 0x07d80780 ∷ 0x08980804 ∷ 0x04380000 ∷ 0x0441043c ∷ 0x00000465 ∷ 60 ∷ 5 ∷ 64 ∷ 0x30323931 ∷ 0x38303178 ∷ 0x30 ∷ 0 ∷ 0
+      ∷ 0 ∷ 0 ∷ 0 ∷ [];
   gamma_on = 0;
   gamma = replicate 192 0;
 }
@@ -48,7 +50,8 @@ abbrev words_of_mixed : CrtcWords
 words_of_mixed = crtc_words 0 (crtc true (Some full_hd) (Some mixed))
 
 words_of_a_table_are_its_channels : (words_of_mixed.gamma_on ≡ 1)
-    × (map (slice_index words_of_mixed.gamma) (0 ∷ 63 ∷ 64 ∷ 127 ∷ 128 ∷ 191 ∷ []) ≡ 0xfcfdfeff ∷ 0x00010203 ∷ 0x04030201 ∷ 0x00fffefd ∷ 0x01010000 ∷ 0x7f7f7e7e ∷ [])
+    × (map (slice_index words_of_mixed.gamma) (0 ∷ 63 ∷ 64 ∷ 127 ∷ 128 ∷ 191 ∷ []) ≡ 0xfcfdfeff ∷ 0x00010203 ∷ 0x04030201 ∷ 0x00fffefd
+    ∷ 0x01010000 ∷ 0x7f7f7e7e ∷ [])
 unfolding crtc_words words_of_bytes
 words_of_a_table_are_its_channels = (refl, refl)
 
@@ -56,7 +59,8 @@ table_is_read_back : (gamma_in_words words_of_mixed ≡ Some mixed) × (gamma_in
 unfolding crtc_words words_of_bytes
 table_is_read_back = (refl, refl)
 
-off_as_at_the_start : (crtc_words 0 (crtc false None None) ≡ first_crtc_words) × (first_crtc_words.mode ≡ replicate 17 0) × (first_crtc_words.gamma ≡ replicate 192 0)
+off_as_at_the_start : (crtc_words 0 (crtc false None None) ≡ first_crtc_words) × (first_crtc_words.mode ≡ replicate 17 0)
+    × (first_crtc_words.gamma ≡ replicate 192 0)
 unfolding crtc_words
 off_as_at_the_start = (refl, refl, refl)
 

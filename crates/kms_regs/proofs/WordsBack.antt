@@ -18,7 +18,9 @@ use Rattle.kms_model.specs.Device.Objects.{ids_of, object_id}
 use Rattle.kms_model.specs.Frames.Pictures.{layers_with, put_plane, seen_on, shown_with}
 use Rattle.kms_model.specs.Device.ModeBytes.{mode_bytes, mode_held}
 use Rattle.kms_model.specs.Device.States.{natural}
-use Rattle.kms_model.specs.Machine.Registers.{CrtcWords, Registers, bytes_of_words, code_of, crtc_words, decoded_picture, fb_number, format_in, gamma_in_words, gamma_words, mode_words, plane_in, plane_register, plane_words, shown_in_words}
+use Rattle.kms_model.specs.Machine.Registers.{CrtcWords, Registers, bytes_of_words, code_of, crtc_words, decoded_picture, fb_number}
+use Rattle.kms_model.specs.Machine.Registers.{format_in, gamma_in_words, gamma_words, mode_words, plane_in, plane_register, plane_words}
+use Rattle.kms_model.specs.Machine.Registers.{shown_in_words}
 use Rattle.kms_model.proofs.GammaRoundTrip.{gamma_back}
 use Rattle.kms_model.proofs.ModeRoundTrip.{mode_held-mode_bytes}
 use Rattle.kms_model.proofs.WordBytes.{mode_long, mode_small, words_back}
@@ -37,7 +39,13 @@ format_back Rg16 = refl
 -- a framebuffer
 fb_back : (fb : Option FbInfo) → HasId fb
     → (if fb_number (λ x. x.id) fb == 0 then None
-    else Some (record { id = fb_number (λ x. x.id) fb; width = fb_number (λ x. x.width) fb; height = fb_number (λ x. x.height) fb; format = format_in (fb_number (λ x. code_of x.format) fb) })) ≡ fb
+    else Some (record {
+      id = fb_number (λ x. x.id) fb;
+      width = fb_number (λ x. x.width) fb;
+      height = fb_number (λ x. x.height) fb;
+      format =
+          format_in (fb_number (λ x. code_of x.format) fb);
+    })) ≡ fb
 fb_back None has = refl
 fb_back (Some x) has = rw (other_id x.id 0 has, format_back x.format) refl
 
@@ -48,7 +56,17 @@ natural_back (negsuc n) low = absurd (omega (arith, ints, low))
 pub plane_back : (s : PlaneState) → IsWritable s → plane_in (plane_words s) ≡ s
 unfolding plane_in plane_words
 plane_back s h =
-    rw (fb_back s.fb h.has_id, signed_back s.dst.x h.in_range.x, signed_back s.dst.y h.in_range.y, natural_back s.dst.w h.in_range.w.low, natural_back s.dst.h h.in_range.h.low, natural_back s.src.x h.in_range.src_x.low, natural_back s.src.y h.in_range.src_y.low, natural_back s.src.w h.in_range.src_w.low, natural_back s.src.h h.in_range.src_h.low) refl
+    rw (
+      fb_back s.fb h.has_id,
+      signed_back s.dst.x h.in_range.x,
+      signed_back s.dst.y h.in_range.y,
+      natural_back s.dst.w h.in_range.w.low,
+      natural_back s.dst.h h.in_range.h.low,
+      natural_back s.src.x h.in_range.src_x.low,
+      natural_back s.src.y h.in_range.src_y.low,
+      natural_back s.src.w h.in_range.src_w.low,
+      natural_back s.src.h h.in_range.src_h.low,
+    ) refl
 
 -- Modes
 
@@ -83,11 +101,14 @@ words_with conn active mode gamma = record {
 by_state : (t : Topology) (rs : Registers) (crtc conn : ℕ) (state : ℕ → PlaneState)
     → ((i : ℕ) → i < length t.planes → plane_in (plane_register rs (object_id Plane i)) ≡ state (object_id Plane i))
     → (active : Bool) (mode : Option Mode) (gamma : Option Gamma) → HasMode active mode → HasGamma gamma
-    → (if not (one_if active == 0) then shown_in_words t rs crtc (words_with conn active mode gamma) else Off) ≡ picture_of_states t crtc state conn gamma active mode
+    → (if not (one_if active == 0) then shown_in_words t rs crtc (words_with conn active mode gamma) else Off)
+    ≡ picture_of_states t crtc state conn gamma active mode
 by_state t rs crtc conn state read true (Some m) gamma has table =
     let f : ℕ → PlaneState = λ plane. plane_in (plane_register rs plane) in
-    ap (λ (k : Mode). On (shown_with k conn (gamma_in_words (words_with conn true (Some m) gamma)) (layers_with f k crtc (ids_of t Plane)))) (mode_back m has)
-    ∙ ap (λ (g : Option Gamma). On (shown_with m conn g (layers_with f m crtc (ids_of t Plane)))) (gamma_read (words_with conn true (Some m) gamma) gamma refl refl table)
+    ap (λ (k : Mode). On (shown_with k conn (gamma_in_words (words_with conn true (Some m) gamma)) (layers_with f k crtc (ids_of t Plane))))
+    (mode_back m has)
+    ∙ ap (λ (g : Option Gamma). On (shown_with m conn g (layers_with f m crtc (ids_of t Plane))))
+    (gamma_read (words_with conn true (Some m) gamma) gamma refl refl table)
     ∙ ap (λ (ls : List (ℕ × Layer)). On (shown_with m conn gamma ls)) (same_layers f state m crtc 0 (length t.planes) (λ i ls low.
     ap (λ (x : PlaneState). put_plane m (object_id Plane i) x (seen_on crtc x) ls) (read i (omega (arith, low)))))
 by_state t rs crtc conn state read true None gamma has table = absurd has

@@ -38,12 +38,13 @@ abbrev pub blanking_count : RegisterFile → ℕ → ℕ
 blanking_count f crtc = read 0 f.counts crtc
 
 -- a register file holds these registers, GO where a commit has it, and these counts
-pub record Holds (t : Topology) (shadow live : Registers) (go : List (ℕ × Option ℕ)) (counts : List (ℕ × ℕ)) (f : RegisterFile) : Type 0 where
-  pub planes : length t.planes ≡ f.planes
-  pub shadow_words : ReadSame shadow f.shadow
-  pub live_words : ReadSame live f.live
-  pub goes : (index : ℕ) → is_some (read None go (object_id Crtc index)) ≡ has_go f (object_id Crtc index)
-  pub counted : (index : ℕ) → read 0 counts (object_id Crtc index) ≡ blanking_count f (object_id Crtc index)
+pub record Holds (t : Topology) (shadow live : Registers) (go : List (ℕ × Option ℕ)) (counts : List (ℕ × ℕ)) (f : RegisterFile) : Type 0
+  where
+    pub planes : length t.planes ≡ f.planes
+    pub shadow_words : ReadSame shadow f.shadow
+    pub live_words : ReadSame live f.live
+    pub goes : (index : ℕ) → is_some (read None go (object_id Crtc index)) ≡ has_go f (object_id Crtc index)
+    pub counted : (index : ℕ) → read 0 counts (object_id Crtc index) ≡ blanking_count f (object_id Crtc index)
 
 -- a register file stands for a machine's device
 abbrev pub StandsForDevice : Topology → DeviceState → RegisterFile → Type 0

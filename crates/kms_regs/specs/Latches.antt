@@ -21,18 +21,21 @@ NoPlaneMoves t shadow live = (index : ℕ) → index < length t.planes → ¬ Mo
 -- after a latch at the CRTC with an index its live picture is that of the shadow words
 abbrev pub ShowsTheShadow : Topology → Registers → Registers → ℕ → Type 0
 ShowsTheShadow t shadow live crtc =
-    decoded_picture t (latched_registers t shadow live (object_id Crtc crtc)) (object_id Crtc crtc) ≡ decoded_picture t shadow (object_id Crtc crtc)
+    decoded_picture t (latched_registers t shadow live (object_id Crtc crtc)) (object_id Crtc crtc)
+    ≡ decoded_picture t shadow (object_id Crtc crtc)
 
 -- after a latch at the CRTC with an index its live picture is that of the states that were written for it
 abbrev pub ShowsWhatWasWritten : Topology → Registers → Registers → ℕ → Type 0
 ShowsWhatWasWritten t shadow live crtc =
     (conn : ℕ) (s : CrtcState) (state : ℕ → PlaneState) → AreWritten t shadow crtc conn s state
-    → decoded_picture t (latched_registers t shadow live (object_id Crtc crtc)) (object_id Crtc crtc) ≡ picture_of_states t (object_id Crtc crtc) state conn s.gamma s.active s.mode
+    → decoded_picture t (latched_registers t shadow live (object_id Crtc crtc)) (object_id Crtc crtc)
+    ≡ picture_of_states t (object_id Crtc crtc) state conn s.gamma s.active s.mode
 
 -- the live pictures of the others are as they were
 abbrev pub LeavesTheOthers : Topology → Registers → Registers → ℕ → Type 0
 LeavesTheOthers t shadow live crtc =
-    (other : ℕ) → other ≢ crtc → decoded_picture t (latched_registers t shadow live (object_id Crtc crtc)) (object_id Crtc other) ≡ decoded_picture t live (object_id Crtc other)
+    (other : ℕ) → other ≢ crtc → decoded_picture t (latched_registers t shadow live (object_id Crtc crtc)) (object_id Crtc other)
+    ≡ decoded_picture t live (object_id Crtc other)
 
 -- The law, for all registers
 

@@ -28,7 +28,8 @@ RewritesPlane old new index before state =
 abbrev pub RewritesCrtc : RegisterFile → RegisterFile → ℕ → ℕ → ℕ → CrtcState → CrtcState → Type 0
 RewritesCrtc old new index conn_before conn before state =
     (t : Topology) (d : DeviceState) → StandsForDevice t d old
-    → StandsForDevice t (with_shadow d (rewrite_crtc d.shadow (object_id Crtc index) (crtc_words conn_before before) (crtc_words conn state))) new
+    → StandsForDevice t (with_shadow d (rewrite_crtc d.shadow (object_id Crtc index) (crtc_words conn_before before)
+    (crtc_words conn state))) new
 
 -- the shadow words of the plane with an index are those of a state
 abbrev pub WritesPlane : RegisterFile → RegisterFile → ℕ → PlaneState → Type 0

@@ -55,5 +55,6 @@ pub record AreWritten (t : Topology) (rs : Registers) (crtc conn : ℕ) (s : Crt
   pub crtc_is : crtc_register rs (object_id Crtc crtc) ≡ crtc_words conn s
   pub mode_is : HasMode s.active s.mode
   pub gamma_is : HasGamma s.gamma
-  pub planes_are : (index : ℕ) → index < length t.planes → plane_register rs (object_id Plane index) ≡ plane_words (state (object_id Plane index))
+  pub planes_are : (index : ℕ) → index < length t.planes → plane_register rs (object_id Plane index)
+      ≡ plane_words (state (object_id Plane index))
   pub states_are : (index : ℕ) → index < length t.planes → IsWritable (state (object_id Plane index))

@@ -9,7 +9,8 @@ use Rattle.kms_model.specs.Script.InputLines.{Fault, Row, input_limit, rows_of}
 use Rattle.kms_model.specs.Script.Schedules.{Parts, input_of, parts_after}
 use Rattle.kms_model.specs.Script.Spelling.{Spells, spelling}
 use Rattle.kms_model.specs.Script.WellFormed.{IsWellFormed}
-use Rattle.kms_model.specs.Script.WholeInput.{Draft, Lined, blank_draft, drafted, input, is_nil, line_after, lines_after, missing_line, or_fault}
+use Rattle.kms_model.specs.Script.WholeInput.{Draft, Lined, blank_draft, drafted, input, is_nil, line_after, lines_after, missing_line}
+use Rattle.kms_model.specs.Script.WholeInput.{or_fault}
 use Rattle.kms_script.specs.declared.faults.ParseError.{ParseError}
 use Rattle.kms_script.specs.declared.faults.ParseError.TheVariants as errors
 use Rattle.kms_script.specs.declared.inputs.Parsed.{Parsed}
@@ -56,7 +57,8 @@ sized_alone false fault size r p same = same
 
 input_alone : (bytes : List ℕ) → input_of part.Script bytes ≡ alone (length bytes) (input bytes)
 unfolding input_of input
-input_alone bytes = sized_alone (nat_lt input_limit (length bytes)) (record { line = 0; why = Limit }) (length bytes) _ _ (lines_alone (length bytes) 1 blank_draft (rows_of bytes))
+input_alone bytes = sized_alone (nat_lt input_limit (length bytes)) (record { line = 0; why = Limit }) (length bytes) _ _
+    (lines_alone (length bytes) 1 blank_draft (rows_of bytes))
 
 pub given_alone : (size : ℕ) (r : Result Script Fault) (x : Parts) → alone size r ≡ Ok x → r ≡ Ok x.script
 given_alone size (Ok s) x e = cc

@@ -1,5 +1,6 @@
 -- The words of a command: their bytes can be printed and are no blanks, they are short, and there are few of them.
-use Rattle.std.proofs.Common.{◌≡◌, ℕ, zero, suc, ◌+◌, ◌*◌, ◌/◌, ◌%◌, ◌<◌, ◌≤◌, ◌^◌, Bool, true, false, List, [], ◌∷◌, ◌++◌, codes, length, length-append, map, ℤ, pos, negsuc, refl, sym, ap, ◌∙◌, arith, append-nil}
+use Rattle.std.proofs.Common.{◌≡◌, ℕ, zero, suc, ◌+◌, ◌*◌, ◌/◌, ◌%◌, ◌<◌, ◌≤◌, ◌^◌, Bool, true, false, List, [], ◌∷◌, ◌++◌, codes, length}
+use Rattle.std.proofs.Common.{length-append, map, ℤ, pos, negsuc, refl, sym, ap, ◌∙◌, arith, append-nil}
 use Rattle.std.specs.Prelude.{◌&&◌, ◌||◌, ◌==◌, int_le, nat_le, nat_lt}
 use Rattle.std.specs.Fmt.{decimal, digit_glyph, digits, signed_decimal}
 use Rattle.std.specs.List.{AllByRecursion, list_all}
@@ -24,8 +25,10 @@ use Rattle.kms_model.specs.Report.Replies.{kind_name}
 use Rattle.kms_model.specs.Report.TextLines.{line}
 use Rattle.kms_model.specs.Script.CommandLines.{is_over}
 use Rattle.kms_model.specs.Script.Grammar.{field_words, is_printable, is_property_byte, is_property_word}
-use Rattle.kms_model.specs.Script.Spelling.{assign_word, blob_word, command_words, format_word, hex_digits, hex_word, name_word, pattern_words, pixel_word, property_word, spelt_mode, value_word}
-use Rattle.kms_model.specs.Script.WellFormed.{are_words16, has_widths, is_assign_in, is_command_in, is_integer, is_label_in, is_mode_name, is_pattern_of, is_property_in, is_value_in, is_word16, is_word32}
+use Rattle.kms_model.specs.Script.Spelling.{assign_word, blob_word, command_words, format_word, hex_digits, hex_word, name_word}
+use Rattle.kms_model.specs.Script.Spelling.{pattern_words, pixel_word, property_word, spelt_mode, value_word}
+use Rattle.kms_model.specs.Script.WellFormed.{are_words16, has_widths, is_assign_in, is_command_in, is_integer, is_label_in, is_mode_name}
+use Rattle.kms_model.specs.Script.WellFormed.{is_pattern_of, is_property_in, is_value_in, is_word16, is_word32}
 use Rattle.kms_model.specs.Script.Words.{between, is_digit, is_hex, is_label, is_label_rest, is_letter, is_name_byte, until}
 use Rattle.kms_words.specs.Printed.{fields}
 use Rattle.kms_words.proofs.Spaced.{line-fields}

@@ -10,7 +10,10 @@ use Rattle.kms_model.specs.Script.CommandLines.{Names, command_read, is_over, or
 use Rattle.kms_model.specs.Script.Grammar.{is_printable}
 use Rattle.kms_model.specs.Script.InputLines.{Row, rows_of}
 use Rattle.kms_model.specs.Script.Words.{until, from, end_at}
-use Rattle.kms_model.specs.Script.WholeInput.{Draft, Lined, is_nil, crtcs_at, plane_fields, conn_at, clients_in, script_limit, is_done, is_conn_of, first_line, crtcs_line, plane_line, conn_line, client_line, command_line, later_line, script_line, sized, line_after, device_after, topology_in, missing_line, version_read}
+use Rattle.kms_model.specs.Script.WholeInput.{Draft, Lined, is_nil, crtcs_at, plane_fields, conn_at, clients_in, script_limit, is_done}
+use Rattle.kms_model.specs.Script.WholeInput.{is_conn_of, first_line, crtcs_line, plane_line, conn_line, client_line, command_line}
+use Rattle.kms_model.specs.Script.WholeInput.{later_line, script_line, sized, line_after, device_after, topology_in, missing_line}
+use Rattle.kms_model.specs.Script.WholeInput.{version_read}
 use Rattle.kms_script.specs.declared.stop.Stop.{Stop}
 use Rattle.kms_script.specs.declared.stop.Stop.TheVariants as stops
 use Rattle.kms_script.specs.Drafted.{Becomes, error_at}
@@ -67,10 +70,12 @@ conn_keeps d fields = conn_step d (conn_at d.crtcs fields) (is_nil d.planes || d
 
 client_keeps : (d : Draft) (fields : List ℕ) → is_nil d.conns ≡ true → KeepsClient d (client_line d fields)
 unfolding client_line
-client_keeps d fields none = rw none (early d (end_at fields) (λ _. unless (nat_le 16 (length (clients_in d))) Limit (Ok (record d { clients = clients_in d; has_client = true; commands = [] }))))
+client_keeps d fields none = rw none (early d (end_at fields)
+    (λ _. unless (nat_le 16 (length (clients_in d))) Limit (Ok (record d { clients = clients_in d; has_client = true; commands = [] }))))
 
 abbrev commanded : Draft → Command × Names → Lined
-commanded d c = unless c.1.is_twice Label (unless (is_over c.0 || (nat_le 4096 (length d.commands) || nat_lt 4096 c.1.made)) Limit (Ok (record d { names = c.1; commands = d.commands ++ c.0 ∷ [] })))
+commanded d c = unless c.1.is_twice Label (unless (is_over c.0 || (nat_le 4096 (length d.commands) || nat_lt 4096 c.1.made)) Limit
+    (Ok (record d { names = c.1; commands = d.commands ++ c.0 ∷ [] })))
 
 command_step : (d : Draft) (o : Option (Command × Names)) (has : Bool) → has ≡ false
     → KeepsClient d (or_form o (λ c. unless (not has) Form (commanded d c)))
@@ -97,7 +102,8 @@ script_keeps : (d : Draft) (text : List ℕ) → d.has_client ≡ false
 unfolding script_line first_line crtcs_line
 script_keeps d text none why =
     choice d (d.head == 0) _ _ (first_step d (version_read text))
-    (choice d (d.head == 1) _ _ (crtcs_step d (bytes_eq (keyword text) (codes "crtcs")) (crtcs_at (from 32 text))) (later_keeps d text none why))
+    (choice d (d.head == 1) _ _ (crtcs_step d (bytes_eq (keyword text) (codes "crtcs")) (crtcs_at (from 32 text)))
+    (later_keeps d text none why))
 
 sized_step : (d next : Draft) (n : ℕ) (t : Bool) → next.has_client ≡ d.has_client
     → KeepsClient d (unless t Limit (Ok (record next { size = next.size + n })))
@@ -116,7 +122,8 @@ row_step d false false r k = k
 row_keeps : (d : Draft) (row : Row) → d.has_client ≡ false → (is_nil d.conns ≡ true) ⊎ (bytes_eq (keyword row.text) (codes "conn") ≡ true)
     → KeepsClient d (line_after d row)
 unfolding line_after
-row_keeps d row none why = row_step d (not (list_all is_printable row.text)) (not row.is_ended) _ (sized_keeps d (length row.text + 1) _ (script_keeps d row.text none why))
+row_keeps d row none why = row_step d (not (list_all is_printable row.text)) (not row.is_ended) _
+    (sized_keeps d (length row.text + 1) _ (script_keeps d row.text none why))
 
 last_of : (a b c e : Bool) → (a && (b && (c && e))) ≡ true → c ≡ true
 last_of true true true e h = refl
@@ -132,13 +139,15 @@ not_done false false h = absurd cc
 why_kept : (d : Draft) (row : Row) → (is_nil d.conns ≡ true) ⊎ (is_conn_of d.crtcs row ≡ true)
     → (is_nil d.conns ≡ true) ⊎ (bytes_eq (keyword row.text) (codes "conn") ≡ true)
 why_kept d row (inl nil) = inl nil
-why_kept d row (inr conn) = inr (last_of row.is_ended (list_all is_printable row.text) (bytes_eq (keyword row.text) (codes "conn")) (is_some (conn_at d.crtcs (from 32 row.text))) conn)
+why_kept d row (inr conn) = inr (last_of row.is_ended (list_all is_printable row.text) (bytes_eq (keyword row.text) (codes "conn"))
+    (is_some (conn_at d.crtcs (from 32 row.text))) conn)
 
 -- no client begins with a line before the device is whole
 pub no_client : (d next : Draft) (row : Row) → is_done d row ≡ false → d.has_client ≡ false → line_after d row ≡ Ok next
     → next.has_client ≡ false
 no_client d next row some none e =
-    let kept : KeepsClient d (line_after d row) = row_keeps d row none (why_kept d row (not_done (is_nil d.conns) (is_conn_of d.crtcs row) some)) in
+    let kept : KeepsClient d (line_after d row) = row_keeps d row none
+    (why_kept d row (not_done (is_nil d.conns) (is_conn_of d.crtcs row) some)) in
     let kept' : KeepsClient d (Ok next) = rw e at kept in
     kept' ∙ none
 

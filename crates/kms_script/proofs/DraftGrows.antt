@@ -1,5 +1,6 @@
 -- A line that may stand where it stands is spelt as what it adds to the draft.
-use Rattle.std.proofs.Common.{◌≡◌, ℕ, ◌<◌, ◌≤◌, inl, inr, true, false, List, [], ◌∷◌, ◌++◌, append-nil, Some, refl, sym, ap, ◌∙◌, subst, arith}
+use Rattle.std.proofs.Common.{◌≡◌, ℕ, ◌<◌, ◌≤◌, inl, inr, true, false, List, [], ◌∷◌, ◌++◌, append-nil, Some, refl, sym, ap, ◌∙◌, subst}
+use Rattle.std.proofs.Common.{arith}
 use Rattle.std.specs.Prelude.{codes}
 use Rattle.std.specs.Fmt.{decimal, digits}
 use Rattle.std.specs.List.{flat_map}
@@ -12,7 +13,8 @@ use Rattle.kms_model.specs.Report.TextLines.{line}
 use Rattle.kms_model.specs.Script.WholeInput.{Draft, is_nil, clients_in, version_read}
 use Rattle.kms_model.specs.Script.Spelling.{spelt_plane, conn_words, command_words}
 use Rattle.kms_script.proofs.Accepted.{either_ok, nil_is}
-use Rattle.kms_script.proofs.DraftText.{head_text, kms_words, whole, lines_text, draft_text, client_text, plane_more, conn_more, client_more, command_more, late_line}
+use Rattle.kms_script.proofs.DraftText.{head_text, kms_words, whole, lines_text, draft_text, client_text, plane_more, conn_more}
+use Rattle.kms_script.proofs.DraftText.{client_more, command_more, late_line}
 use Rattle.kms_script.proofs.Inverted.{if_some, some_same}
 use Rattle.kms_script.proofs.NamesBegin.{Begins}
 use Rattle.kms_script.proofs.ProfileStays.{command_stays}
@@ -59,9 +61,11 @@ version_two text is = rw (is, two) refl
 
 version_spelt : (text : List ℕ) (version : ℕ) → version_read text ≡ Some version → line (kms_words version) ≡ text ++ 10 ∷ []
 version_spelt text version e = elim (either_ok (bytes_eq text (codes "kms 1")) _ _ (Some version) e) [
-  | inl first ↦ subst (λ v. line (kms_words v) ≡ text ++ 10 ∷ []) (some_same 1 version first.1) (version_one text ((bytes_eq-Decides text (codes "kms 1")).0 first.0))
+  | inl first ↦ subst (λ v. line (kms_words v) ≡ text ++ 10 ∷ []) (some_same 1 version first.1)
+      (version_one text ((bytes_eq-Decides text (codes "kms 1")).0 first.0))
   | inr other ↦ (let second = if_some (bytes_eq text (codes "kms 2")) (Some 2) version other.1 in
-      subst (λ v. line (kms_words v) ≡ text ++ 10 ∷ []) (some_same 2 version second.1) (version_two text ((bytes_eq-Decides text (codes "kms 2")).0 second.0)))
+      subst (λ v. line (kms_words v) ≡ text ++ 10 ∷ []) (some_same 2 version second.1)
+      (version_two text ((bytes_eq-Decides text (codes "kms 2")).0 second.0)))
 ]
 
 -- a draft of a version behind the first line
@@ -80,7 +84,14 @@ first_grown all d version text zeroth read = rw (zeroth) (sym (version_spelt tex
 pub first_follows : (d : Draft) (version : ℕ) (text : List ℕ) → IsInOrder d → d.head ≡ 0 → version_read text ≡ Some version
     → Follows d (with_version d version) text
 first_follows d version text o zeroth read = record {
-  ordered = record { crtcs = o.crtcs; planes = λ lt. o.planes (omega arith); conns = λ lt. o.conns (omega arith); late_client = o.late_client; first_client = o.first_client };
+  ordered = record {
+    crtcs = o.crtcs;
+    planes = λ lt. o.planes (omega arith);
+    conns = λ lt. o.conns (omega arith);
+    late_client =
+        o.late_client;
+    first_client = o.first_client;
+  };
   spelt = λ all b. record { begins = any_profile all d.names version b; grown = first_grown all d version text zeroth read };
 }
 
@@ -98,7 +109,13 @@ second_text all d n text o first spelt =
 pub second_follows : (d : Draft) (n : ℕ) (text : List ℕ) → IsInOrder d → d.head ≡ 1 → n ≤ 4
     → line (codes "crtcs" ∷ decimal n ∷ []) ≡ text ++ 10 ∷ [] → Follows d (record d { head = 2; crtcs = n }) text
 second_follows d n text o first few spelt = record {
-  ordered = record { crtcs = few; planes = λ lt. absurd (omega arith); conns = λ lt. absurd (omega arith); late_client = o.late_client; first_client = o.first_client };
+  ordered = record {
+    crtcs = few;
+    planes = λ lt. absurd (omega arith);
+    conns = λ lt. absurd (omega arith);
+    late_client = o.late_client;
+    first_client = o.first_client;
+  };
   spelt = λ all b. record { begins = b; grown = second_text all d n text o first spelt };
 }
 
@@ -108,11 +125,18 @@ second_follows d n text o first few spelt = record {
 pub plane_follows : (d : Draft) (p : PlaneInfo) (text : List ℕ) → IsInOrder d → 2 ≤ d.head → is_nil d.conns ≡ true
     → line (spelt_plane p) ≡ text ++ 10 ∷ [] → Follows d (record d { planes = d.planes ++ p ∷ [] }) text
 plane_follows d p text o late none spelt = record {
-  ordered = record { crtcs = o.crtcs; planes = λ lt. absurd (omega arith); conns = λ lt. absurd (omega arith); late_client = o.late_client; first_client = o.first_client };
+  ordered = record {
+    crtcs = o.crtcs;
+    planes = λ lt. absurd (omega arith);
+    conns = λ lt. absurd (omega arith);
+    late_client = o.late_client;
+    first_client = o.first_client;
+  };
   spelt = λ all b. record {
     begins = b;
     grown = late_line all d (record d { planes = d.planes ++ p ∷ [] }) (spelt_plane p) text late refl spelt
-        (plane_more all (head_text d.names.profile d.crtcs) d.planes p d.conns (clients_in d) (nil_is d.conns none) (no_clients d o (o.late_client none)));
+        (plane_more all (head_text d.names.profile d.crtcs) d.planes p d.conns (clients_in d) (nil_is d.conns none)
+        (no_clients d o (o.late_client none)));
   };
 }
 
@@ -120,11 +144,19 @@ plane_follows d p text o late none spelt = record {
 pub conn_follows : (d : Draft) (mask : ℕ) (text : List ℕ) → IsInOrder d → 2 ≤ d.head → d.has_client ≡ false
     → line (conn_words mask) ≡ text ++ 10 ∷ [] → Follows d (record d { conns = d.conns ++ mask ∷ [] }) text
 conn_follows d mask text o late none spelt = record {
-  ordered = record { crtcs = o.crtcs; planes = o.planes; conns = λ lt. absurd (omega arith); late_client = λ nil. none; first_client = o.first_client };
+  ordered = record {
+    crtcs = o.crtcs;
+    planes = o.planes;
+    conns = λ lt. absurd (omega arith);
+    late_client = λ nil. none;
+    first_client =
+        o.first_client;
+  };
   spelt = λ all b. record {
     begins = b;
     grown = late_line all d (record d { conns = d.conns ++ mask ∷ [] }) (conn_words mask) text late refl spelt
-        (conn_more all (head_text d.names.profile d.crtcs) (lines_text spelt_plane d.planes) d.conns mask (clients_in d) (no_clients d o none));
+        (conn_more all (head_text d.names.profile d.crtcs) (lines_text spelt_plane d.planes) d.conns mask (clients_in d)
+        (no_clients d o none));
   };
 }
 
@@ -136,11 +168,19 @@ with_client d = record d { clients = clients_in d; has_client = true; commands =
 pub client_follows : (d : Draft) (text : List ℕ) → IsInOrder d → 2 ≤ d.head → is_nil d.conns ≡ false
     → line (codes "client" ∷ []) ≡ text ++ 10 ∷ [] → Follows d (with_client d) text
 client_follows d text o late some spelt = record {
-  ordered = record { crtcs = o.crtcs; planes = o.planes; conns = o.conns; late_client = λ nil. sym nil ∙ some; first_client = λ none. absurd cc };
+  ordered = record {
+    crtcs = o.crtcs;
+    planes = o.planes;
+    conns = o.conns;
+    late_client = λ nil. sym nil ∙ some;
+    first_client = λ none. absurd
+        cc;
+  };
   spelt = λ all b. record {
     begins = b;
     grown = late_line all d (with_client d) (codes "client" ∷ []) text late refl spelt
-        (client_more all (head_text d.names.profile d.crtcs) (lines_text spelt_plane d.planes) (lines_text conn_words d.conns) (clients_in d));
+        (client_more all (head_text d.names.profile d.crtcs) (lines_text spelt_plane d.planes) (lines_text conn_words d.conns)
+        (clients_in d));
   };
 }
 
@@ -151,8 +191,12 @@ command_follows d c after text o late has read = record {
   ordered = record { crtcs = o.crtcs; planes = o.planes; conns = o.conns; late_client = o.late_client; first_client = o.first_client };
   spelt = λ all b. record {
     begins = names_begin all d.names after text c read b;
-    grown = late_line all d (record d { names = after; commands = d.commands ++ c ∷ [] }) (command_words all c) text late refl (command_spelt all d.names after text c read b)
-        (command_more all (head_text d.names.profile d.crtcs) (lines_text spelt_plane d.planes) (lines_text conn_words d.conns) d.clients d.has_client d.commands c has
-        ∙ ap (λ v. whole (head_text v d.crtcs) (lines_text spelt_plane d.planes) (lines_text conn_words d.conns) (flat_map (client_text all) (clients_in (record d { commands = d.commands ++ c ∷ [] })))) (sym (command_stays d.names text (c, after) read)));
+    grown = late_line all d (record d { names = after; commands = d.commands ++ c ∷ [] }) (command_words all c) text late refl
+        (command_spelt all d.names after text c read b)
+        (command_more all (head_text d.names.profile d.crtcs) (lines_text spelt_plane d.planes) (lines_text conn_words d.conns) d.clients
+        d.has_client d.commands c has
+        ∙ ap (λ v. whole (head_text v d.crtcs) (lines_text spelt_plane d.planes) (lines_text conn_words d.conns)
+        (flat_map (client_text all) (clients_in (record d { commands = d.commands ++ c ∷ [] }))))
+        (sym (command_stays d.names text (c, after) read)));
   };
 }

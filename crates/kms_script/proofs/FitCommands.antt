@@ -11,15 +11,20 @@ use Rattle.kms_model.specs.declared.scripts.Command.{Command}
 use Rattle.kms_model.specs.declared.scripts.Command.TheVariants as command
 use Rattle.kms_model.specs.declared.scripts.Value.{Value}
 use Rattle.kms_model.specs.declared.scripts.Value.TheVariants as value
-use Rattle.kms_model.specs.Device.Properties.{Property, has_id, is_in_profile, is_named, properties, property_id, property_in, property_named, same_kind}
+use Rattle.kms_model.specs.Device.Properties.{Property, has_id, is_in_profile, is_named, properties, property_id, property_in}
+use Rattle.kms_model.specs.Device.Properties.{property_named, same_kind}
 use Rattle.kms_model.proofs.SetLemmas.{find-passes}
 use Rattle.kms_model.proofs.Facts.{or_else-some}
-use Rattle.kms_model.specs.Script.CommandLines.{Names, addfb_read, assign_read, assign_words, assigns_read, atomic_read, blob_read, buffer_read, command_read, label_alone, label_read, making, making_read, mode_read, naming_read, place, property_read, saying, thing_read, value_read}
+use Rattle.kms_model.specs.Script.CommandLines.{Names, addfb_read, assign_read, assign_words, assigns_read, atomic_read, blob_read}
+use Rattle.kms_model.specs.Script.CommandLines.{buffer_read, command_read, label_alone, label_read, making, making_read, mode_read}
+use Rattle.kms_model.specs.Script.CommandLines.{naming_read, place, property_read, saying, thing_read, value_read}
 use Rattle.kms_model.specs.Script.Grammar.{int, is_property_word, known_property, object}
-use Rattle.kms_model.specs.Script.WellFormed.{has_widths, is_assign_in, is_command_in, is_label_in, is_mode_name, is_pattern_of, is_property_in, is_value_in, is_word32}
+use Rattle.kms_model.specs.Script.WellFormed.{has_widths, is_assign_in, is_command_in, is_label_in, is_mode_name, is_pattern_of}
+use Rattle.kms_model.specs.Script.WellFormed.{is_property_in, is_value_in, is_word32}
 use Rattle.kms_model.specs.Script.Words.{between, dec, end_at, from, is_label, label_at, strip, until}
 use Rattle.kms_script.proofs.ReadParts.{blob_line_parts, buffer_parts, mode_line_parts, request_parts}
-use Rattle.kms_script.proofs.FitWords.{alone_fit, blob_fit, dec_at_fit, hex_at_fit, index_fit, int_fit, label_fit, long_fit, mode_fit, object_fit, pattern_fit, word_fit}
+use Rattle.kms_script.proofs.FitWords.{alone_fit, blob_fit, dec_at_fit, hex_at_fit, index_fit, int_fit, label_fit, long_fit, mode_fit}
+use Rattle.kms_script.proofs.FitWords.{object_fit, pattern_fit, word_fit}
 use Rattle.kms_script.proofs.Inverted.{bind_some, choice_some, from_bind, if_some, map_some, or_some, some_same}
 use Rattle.kms_script.proofs.Accepted.{either_ok}
 use Rattle.kms_script.proofs.ProfileStays.{assign_stays}
@@ -74,18 +79,22 @@ found_too q r (y ∷ ys) x e passes = elim (either_ok (q y) (Some y) (find q ys)
 row_fit : (profile : ℕ) (kind : Kind) (word : List ℕ) (p : Property) → property_named profile kind word ≡ Some p
     → is_named profile kind word p ≡ true → is_some (property_in profile p.id) ≡ true
 row_fit profile kind word p found named =
-    let both : (bytes_eq p.name word && is_in_profile profile p) ≡ true = (and_parts (list_any (same_kind kind) p.kinds) (bytes_eq p.name word && is_in_profile profile p) named).1 in
+    let both : (bytes_eq p.name word && is_in_profile profile p)
+    ≡ true = (and_parts (list_any (same_kind kind) p.kinds) (bytes_eq p.name word && is_in_profile profile p) named).1 in
     let within : is_in_profile profile p ≡ true = (and_parts (bytes_eq p.name word) (is_in_profile profile p) both).1 in
-    found_too (is_named profile kind word) (λ r. has_id p.id r && is_in_profile profile r) properties p found (and_from (has_id p.id p) (is_in_profile profile p) (eq-eqb p.id p.id refl) within)
+    found_too (is_named profile kind word) (λ r. has_id p.id r && is_in_profile profile r) properties p found
+    (and_from (has_id p.id p) (is_in_profile profile p) (eq-eqb p.id p.id refl) within)
 
 -- the id of a property's name is in the table
 id_fit : (profile : ℕ) (kind : Kind) (word : List ℕ) (id : ℕ) → property_id profile kind word ≡ Some id
     → is_some (property_in profile id) ≡ true
 id_fit profile kind word id e = step (property_named profile kind word) refl (find-passes (is_named profile kind word) properties) e
   where
-    step : (o : Option Property) → property_named profile kind word ≡ o → IfSome o (λ p. is_named profile kind word p ≡ true) → option_map (λ (p : Property). p.id) o ≡ Some id → is_some (property_in profile id) ≡ true
+    step : (o : Option Property) → property_named profile kind word ≡ o → IfSome o (λ p. is_named profile kind word p ≡ true)
+        → option_map (λ (p : Property). p.id) o ≡ Some id → is_some (property_in profile id) ≡ true
     step None found named e = absurd cc
-    step (Some p) found named e = subst (λ n. is_some (property_in profile n) ≡ true) (some_same p.id id e) (row_fit profile kind word p found named)
+    step (Some p) found named e = subst (λ n. is_some (property_in profile n) ≡ true) (some_same p.id id e)
+        (row_fit profile kind word p found named)
 
 known_fit : (profile : ℕ) (word : List ℕ) (id : ℕ) → known_property profile word ≡ Some id → is_some (property_in profile id) ≡ true
 known_fit profile word id e = elim (or_else-some (property_id profile Plane word) _ id e) [
@@ -129,8 +138,11 @@ assign_fit all names word r e =
     let fit = words_fit word w.value w.given in
     rw (← some_same _ r v.then) (λ b.
     let val = value_named all ((property_read names w.value.2).1) w.value.3 v.value v.given b in
-    and_from (nat_le w.value.1 255) (is_property_in names.profile all ((property_read names w.value.2).0) && is_value_in all v.value.0) fit.few
-    (and_from (is_property_in names.profile all ((property_read names w.value.2).0)) (is_value_in all v.value.0) (property_fit all names w.value.2 fit.named val.begins) (value_fit all ((property_read names w.value.2).1) w.value.3 v.value v.given b)))
+    and_from (nat_le w.value.1 255) (is_property_in names.profile all ((property_read names w.value.2).0) && is_value_in all v.value.0)
+    fit.few
+    (and_from (is_property_in names.profile all ((property_read names w.value.2).0)) (is_value_in all v.value.0)
+    (property_fit all names w.value.2 fit.named val.begins)
+    (value_fit all ((property_read names w.value.2).1) w.value.3 v.value v.given b)))
 
 assigns_fit : (all : List (List ℕ)) (ws : List (List ℕ)) (names : Names) (r : List Assign × Names) → assigns_read names ws ≡ Some r
     → Begins r.1 all → list_all (is_assign_in names.profile all) r.0 ≡ true
@@ -140,8 +152,11 @@ assigns_fit all (w ∷ ws) names r e =
     let more = bind_some (assigns_read a.value.1 ws) _ r a.then in
     rw (← some_same _ r more.then) (λ b.
     let later = assigns_named all ws a.value.1 more.value more.given b in
-    let rest : list_all (is_assign_in names.profile all) more.value.0 ≡ true = subst (λ profile. list_all (is_assign_in profile all) more.value.0 ≡ true) (assign_stays names w a.value a.given) (assigns_fit all ws a.value.1 more.value more.given b) in
-    and_from (is_assign_in names.profile all a.value.0) (list_all (is_assign_in names.profile all) more.value.0) (assign_fit all names w a.value a.given later.begins) rest)
+    let rest : list_all (is_assign_in names.profile all) more.value.0
+    ≡ true = subst (λ profile. list_all (is_assign_in profile all) more.value.0 ≡ true) (assign_stays names w a.value a.given)
+    (assigns_fit all ws a.value.1 more.value more.given b) in
+    and_from (is_assign_in names.profile all a.value.0) (list_all (is_assign_in names.profile all) more.value.0)
+    (assign_fit all names w a.value a.given later.begins) rest)
 
 -- Commands
 
@@ -154,17 +169,23 @@ atomic_fit : (all : List (List ℕ)) (names : Names) (bytes : List ℕ) (r : Com
 atomic_fit all names bytes r e =
     let p = request_parts names bytes r e in
     rw (← p.makes) (λ b.
-    and_from (is_word32 p.flags.0) (nat_lt p.user.0 (2 ^ 64) && list_all (is_assign_in names.profile all) p.sets.0) (hex_at_fit bytes p.flags p.first)
-    (and_from (nat_lt p.user.0 (2 ^ 64)) (list_all (is_assign_in names.profile all) p.sets.0) (long_fit p.user.0 (dec_at_fit 18446744073709551615 p.flags.1 p.user p.second)) (assigns_fit all p.words names p.sets p.given b)))
+    and_from (is_word32 p.flags.0) (nat_lt p.user.0 (2 ^ 64) && list_all (is_assign_in names.profile all) p.sets.0)
+    (hex_at_fit bytes p.flags p.first)
+    (and_from (nat_lt p.user.0 (2 ^ 64)) (list_all (is_assign_in names.profile all) p.sets.0)
+    (long_fit p.user.0 (dec_at_fit 18446744073709551615 p.flags.1 p.user p.second)) (assigns_fit all p.words names p.sets p.given b)))
 
 buffer_fit : (all : List (List ℕ)) (names : Names) (bytes : List ℕ) (r : Command × Names) → buffer_read names bytes ≡ Some r
     → Fits all names.profile r
 buffer_fit all names bytes r e =
     let p = buffer_parts names bytes r e in
     rw (← p.makes) (λ b.
-    and_from (is_label_in all (place p.label.0 names)) (is_word32 p.w.0 && (is_word32 p.h.0 && is_pattern_of p.format.0 p.w.0 p.h.0 p.pattern)) (said_fit all names p.label.0 (label_fit bytes p.label p.first) (making_says all p.label.0 names b))
-    (and_from (is_word32 p.w.0) (is_word32 p.h.0 && is_pattern_of p.format.0 p.w.0 p.h.0 p.pattern) (word_fit p.w.0 (dec_at_fit 4294967295 p.label.1 p.w p.wide))
-    (and_from (is_word32 p.h.0) (is_pattern_of p.format.0 p.w.0 p.h.0 p.pattern) (word_fit p.h.0 (dec_at_fit 4294967295 p.w.1 p.h p.high)) (pattern_fit p.w.0 p.h.0 p.format.0 p.format.1 p.pattern p.shown))))
+    and_from (is_label_in all (place p.label.0 names))
+    (is_word32 p.w.0 && (is_word32 p.h.0 && is_pattern_of p.format.0 p.w.0 p.h.0 p.pattern))
+    (said_fit all names p.label.0 (label_fit bytes p.label p.first) (making_says all p.label.0 names b))
+    (and_from (is_word32 p.w.0) (is_word32 p.h.0 && is_pattern_of p.format.0 p.w.0 p.h.0 p.pattern)
+    (word_fit p.w.0 (dec_at_fit 4294967295 p.label.1 p.w p.wide))
+    (and_from (is_word32 p.h.0) (is_pattern_of p.format.0 p.w.0 p.h.0 p.pattern) (word_fit p.h.0 (dec_at_fit 4294967295 p.w.1 p.h p.high))
+    (pattern_fit p.w.0 p.h.0 p.format.0 p.format.1 p.pattern p.shown))))
 
 addfb_fit : (all : List (List ℕ)) (names : Names) (bytes : List ℕ) (r : Command × Names) → addfb_read names bytes ≡ Some r
     → Fits all names.profile r
@@ -174,7 +195,8 @@ addfb_fit all names bytes r e =
     from_bind (label_alone label.1) _ r more (λ buffer last more.
     rw (← some_same _ r more) (λ b.
     and_from (is_label_in all (place label.0 names)) (is_label_in all (place buffer (making label.0 names)))
-    (said_fit all names label.0 (label_fit bytes label first) (making_says all label.0 names (before_saying all buffer (making label.0 names) b)))
+    (said_fit all names label.0 (label_fit bytes label first)
+    (making_says all label.0 names (before_saying all buffer (making label.0 names) b)))
     (said_fit all (making label.0 names) buffer (alone_fit label.1 buffer last) b))))
 
 mode_read_fit : (all : List (List ℕ)) (names : Names) (bytes : List ℕ) (r : Command × Names) → mode_read names bytes ≡ Some r
@@ -182,14 +204,18 @@ mode_read_fit : (all : List (List ℕ)) (names : Names) (bytes : List ℕ) (r : 
 mode_read_fit all names bytes r e =
     let p = mode_line_parts names bytes r e in
     rw (← p.makes) (λ b.
-    and_from (is_label_in all (place p.label.0 names)) (has_widths p.mode.0 && is_mode_name p.mode.0.name) (said_fit all names p.label.0 (label_fit bytes p.label p.first) (making_says all p.label.0 names b)) (mode_fit p.label.1 p.mode p.shown))
+    and_from (is_label_in all (place p.label.0 names)) (has_widths p.mode.0 && is_mode_name p.mode.0.name)
+    (said_fit all names p.label.0 (label_fit bytes p.label p.first) (making_says all p.label.0 names b))
+    (mode_fit p.label.1 p.mode p.shown))
 
 blob_read_fit : (all : List (List ℕ)) (names : Names) (bytes : List ℕ) (r : Command × Names) → blob_read names bytes ≡ Some r
     → Fits all names.profile r
 blob_read_fit all names bytes r e =
     let p = blob_line_parts names bytes r e in
     rw (← p.makes) (λ b.
-    and_from (is_label_in all (place p.label.0 names)) (between 1 2048 (length p.blob) && list_all (λ b. nat_lt b 256) p.blob) (said_fit all names p.label.0 (label_fit bytes p.label p.first) (making_says all p.label.0 names b)) (blob_fit p.f.0 p.blob p.given))
+    and_from (is_label_in all (place p.label.0 names)) (between 1 2048 (length p.blob) && list_all (λ b. nat_lt b 256) p.blob)
+    (said_fit all names p.label.0 (label_fit bytes p.label p.first) (making_says all p.label.0 names b))
+    (blob_fit p.f.0 p.blob p.given))
 
 -- a command of one label
 abbrev OfLabel : List (List ℕ) → (ℕ → Command) → Type 0
@@ -207,7 +233,8 @@ making_fit : (all : List (List ℕ)) (f : ℕ → Command) → OfLabel all f →
 unfolding making_read
 making_fit all f of names bytes r e =
     from_bind (label_alone bytes) _ r e (λ label alone more.
-    rw (← some_same _ r more) (λ b. of names.profile (place label names) (said_fit all names label (alone_fit bytes label alone) (making_says all label names b))))
+    rw (← some_same _ r more) (λ b. of names.profile (place label names)
+    (said_fit all names label (alone_fit bytes label alone) (making_says all label names b))))
 
 wait_fit : (all : List (List ℕ)) (names : Names) (bytes : List ℕ) (r : Command × Names)
     → option_map (λ u. (command.Wait, names)) (end_at bytes) ≡ Some r → Fits all names.profile r
@@ -235,7 +262,8 @@ label_read_fit : (all : List (List ℕ)) (names : Names) (keyword bytes : List �
 unfolding label_read
 label_read_fit all names keyword bytes r e =
     by_word all names.profile (bytes_eq keyword (codes "destroy")) r _ _ (naming_fit all command.Destroy (λ profile n is. is) names bytes r)
-    (by_word all names.profile (bytes_eq keyword (codes "closefb")) r _ _ (naming_fit all command.CloseFb (λ profile n is. is) names bytes r)
+    (by_word all names.profile (bytes_eq keyword (codes "closefb")) r _ _
+    (naming_fit all command.CloseFb (λ profile n is. is) names bytes r)
     (by_word all names.profile (bytes_eq keyword (codes "fence")) r _ _ (making_fit all command.Fence (λ profile n is. is) names bytes r)
     (by_word all names.profile (bytes_eq keyword (codes "signal")) r _ _ (naming_fit all command.Signal (λ profile n is. is) names bytes r)
     (thing_fit all names keyword bytes r)))) e

@@ -1,5 +1,6 @@
 -- What lines spell is within the bounds of a well-formed script.
-use Rattle.std.proofs.Common.{◌≡◌, ℕ, ◌+◌, ◌-◌, ◌≤◌, ◌^◌, inl, inr, Bool, true, false, not, List, [], ◌∷◌, ◌++◌, append-nil, length, cond, Option, Some, None, Ok, refl, sym, subst, arith}
+use Rattle.std.proofs.Common.{◌≡◌, ℕ, ◌+◌, ◌-◌, ◌≤◌, ◌^◌, inl, inr, Bool, true, false, not, List, [], ◌∷◌, ◌++◌, append-nil, length, cond}
+use Rattle.std.proofs.Common.{Option, Some, None, Ok, refl, sym, subst, arith}
 use Rattle.std.specs.Prelude.{◌==◌, ◌&&◌, ◌||◌, codes, nat_le, nat_lt, option_map}
 use Rattle.std.specs.List.{list_all}
 use Rattle.std.specs.Str.{bytes_eq}
@@ -15,7 +16,9 @@ use Rattle.kms_model.specs.Script.Grammar.{crtc_list, format_bit, format_list, f
 use Rattle.kms_model.specs.Script.InputLines.{Row, rows_of}
 use Rattle.kms_model.specs.Script.Spelling.{Spells, spelt_line, spelt_lines}
 use Rattle.kms_model.specs.Script.WellFormed.{has_choice, is_command_in}
-use Rattle.kms_model.specs.Script.WholeInput.{Draft, blank_draft, client_line, clients_in, clients_of, command_line, conn_at, conn_line, crtcs_at, crtcs_line, first_line, is_nil, later_line, plane_fields, plane_line, plane_type, script_in, script_line, version_read}
+use Rattle.kms_model.specs.Script.WholeInput.{Draft, blank_draft, client_line, clients_in, clients_of, command_line, conn_at, conn_line}
+use Rattle.kms_model.specs.Script.WholeInput.{crtcs_at, crtcs_line, first_line, is_nil, later_line, plane_fields, plane_line, plane_type}
+use Rattle.kms_model.specs.Script.WholeInput.{script_in, script_line, version_read}
 use Rattle.kms_model.specs.Script.Words.{dec, end_at, field_at, from, until}
 use Rattle.kms_script.proofs.Accepted.{accepted, either_ok, form_ok, if_ok, is_late, ok_same, on_from, unless_ok}
 use Rattle.kms_script.proofs.DraftGrows.{any_profile, with_version}
@@ -69,7 +72,8 @@ plane_choice crtcs bytes p e =
     from_bind (plane_type t.0) _ p more (λ kind k more.
     from_bind (crtc_list crtcs l.0) _ p more (λ mask m more.
     from_bind (format_list f.0) _ p more (λ formats n more.
-    rw (← some_same _ p more) (and_from (not (mask == 0)) (not (formats == 0)) (crtcs_some crtcs mask l.0 m) (formats_some formats f.0 n)))))))))
+    rw (← some_same _ p more) (and_from (not (mask == 0)) (not (formats == 0)) (crtcs_some crtcs mask l.0 m)
+    (formats_some formats f.0 n)))))))))
 
 conn_choice : (crtcs : ℕ) (bytes : List ℕ) (mask : ℕ) → conn_at crtcs bytes ≡ Some mask → IsSome mask
 unfolding conn_at
@@ -91,7 +95,9 @@ all_front : {A : Type 0} (p : A → Bool) (xs ys : List A) → list_all p (xs ++
 all_front p [] ys e = (refl, e)
 all_front p (x ∷ xs) ys e = step (p x) e (λ more. all_front p xs ys more)
   where
-    step : (t : Bool) → (t && list_all p (xs ++ ys)) ≡ true → (list_all p (xs ++ ys) ≡ true → (list_all p xs ≡ true) × (list_all p ys ≡ true)) → ((t && list_all p xs) ≡ true) × (list_all p ys ≡ true)
+    step : (t : Bool) → (t && list_all p (xs ++ ys)) ≡ true
+        → (list_all p (xs ++ ys) ≡ true → (list_all p xs ≡ true) × (list_all p ys ≡ true)) → ((t && list_all p xs) ≡ true)
+        × (list_all p ys ≡ true)
     step true e ih = ih e
     step false e ih = absurd cc
 
@@ -122,7 +128,16 @@ unfolding first_line
 first_leads all d next text zeroth e =
     let version = form_ok (version_read text) _ next e in
     subst (λ n. Begins n.names all → Leads all d n) (ok_same (with_version d version.value) next version.then)
-    (λ b. record { begins = any_profile all d.names version.value b; fits = λ f. record { planes = f.planes; conns = f.conns; clients = none_fit (is_command_in version.value all) (clients_in d) (f.early zeroth); early = λ none. absurd (omega arith) } })
+    (λ b. record {
+      begins = any_profile all d.names version.value b;
+      fits = λ f.
+          record {
+            planes = f.planes;
+            conns = f.conns;
+            clients = none_fit (is_command_in version.value all) (clients_in d) (f.early zeroth);
+            early = λ none. absurd (omega arith);
+          };
+    })
 
 crtcs_leads : (all : List (List ℕ)) (d next : Draft) (text : List ℕ) → crtcs_line d text ≡ Ok next → Begins next.names all
     → Leads all d next
@@ -130,7 +145,17 @@ unfolding crtcs_line
 crtcs_leads all d next text e =
     let key = if_ok (bytes_eq (until 32 text) (codes "crtcs")) Form _ next e in
     let n = form_ok (crtcs_at (from 32 text)) _ next key.1 in
-    subst (λ m. Begins m.names all → Leads all d m) (ok_same (record d { head = 2; crtcs = n.value }) next n.then) (λ b. record { begins = b; fits = λ f. record { planes = f.planes; conns = f.conns; clients = f.clients; early = λ none. absurd (omega arith) } })
+    subst (λ m. Begins m.names all → Leads all d m) (ok_same (record d { head = 2; crtcs = n.value }) next n.then)
+    (λ b. record {
+      begins = b;
+      fits = λ f. record {
+        planes = f.planes;
+        conns = f.conns;
+        clients = f.clients;
+        early = λ none. absurd
+            (omega arith);
+      };
+    })
 
 plane_leads : (all : List (List ℕ)) (d next : Draft) (fields : List ℕ) → plane_line d fields ≡ Ok next → Begins next.names all
     → Leads all d next
@@ -140,7 +165,16 @@ plane_leads all d next fields e =
     let form = unless_ok (not (is_nil d.conns)) Form _ next p.then in
     let limit = unless_ok (nat_le 16 (length d.planes)) Limit _ next form.1 in
     subst (λ m. Begins m.names all → Leads all d m) (ok_same (record d { planes = d.planes ++ p.value ∷ [] }) next limit.1)
-    (λ b. record { begins = b; fits = λ f. record { planes = all_append has_choice d.planes (p.value ∷ []) f.planes (all_one has_choice p.value (plane_choice d.crtcs fields p.value p.given)); conns = f.conns; clients = f.clients; early = f.early } })
+    (λ b. record {
+      begins = b;
+      fits = λ f. record {
+        planes = all_append has_choice d.planes (p.value ∷ []) f.planes
+            (all_one has_choice p.value (plane_choice d.crtcs fields p.value p.given));
+        conns = f.conns;
+        clients = f.clients;
+        early = f.early;
+      };
+    })
 
 conn_leads : (all : List (List ℕ)) (d next : Draft) (fields : List ℕ) → conn_line d fields ≡ Ok next → Begins next.names all
     → Leads all d next
@@ -150,7 +184,16 @@ conn_leads all d next fields e =
     let form = unless_ok (is_nil d.planes || d.has_client) Form _ next mask.then in
     let limit = unless_ok (nat_le 8 (length d.conns)) Limit _ next form.1 in
     subst (λ m. Begins m.names all → Leads all d m) (ok_same (record d { conns = d.conns ++ mask.value ∷ [] }) next limit.1)
-    (λ b. record { begins = b; fits = λ f. record { planes = f.planes; conns = all_append (λ mask. not (mask == 0)) d.conns (mask.value ∷ []) f.conns (all_one (λ mask. not (mask == 0)) mask.value (conn_choice d.crtcs fields mask.value mask.given)); clients = f.clients; early = f.early } })
+    (λ b. record {
+      begins = b;
+      fits = λ f. record {
+        planes = f.planes;
+        conns = all_append (λ mask. not (mask == 0)) d.conns
+            (mask.value ∷ []) f.conns (all_one (λ mask. not (mask == 0)) mask.value (conn_choice d.crtcs fields mask.value mask.given));
+        clients = f.clients;
+        early = f.early;
+      };
+    })
 
 client_leads : (all : List (List ℕ)) (d next : Draft) (fields : List ℕ) → 2 ≤ d.head → client_line d fields ≡ Ok next
     → Begins next.names all → Leads all d next
@@ -159,8 +202,18 @@ client_leads all d next fields late e =
     let done = form_ok (end_at fields) _ next e in
     let form = unless_ok (is_nil d.conns) Form _ next done.then in
     let limit = unless_ok (nat_le 16 (length (clients_in d))) Limit _ next form.1 in
-    subst (λ m. Begins m.names all → Leads all d m) (ok_same (record d { clients = clients_in d; has_client = true; commands = [] }) next limit.1)
-    (λ b. record { begins = b; fits = λ f. record { planes = f.planes; conns = f.conns; clients = all_append (list_all (is_command_in d.names.profile all)) (clients_in d) ([] ∷ []) f.clients refl; early = λ none. absurd (omega arith) } })
+    subst (λ m. Begins m.names all → Leads all d m)
+    (ok_same (record d { clients = clients_in d; has_client = true; commands = [] }) next limit.1)
+    (λ b. record {
+      begins = b;
+      fits = λ f. record {
+        planes = f.planes;
+        conns = f.conns;
+        clients = all_append
+            (list_all (is_command_in d.names.profile all)) (clients_in d) ([] ∷ []) f.clients refl;
+        early = λ none. absurd (omega arith);
+      };
+    })
 
 -- a command more of the present client
 one_more : (p : Command → Bool) (clients : List (List Command)) (has : Bool) (commands : List Command) (c : Command) → has ≡ true
@@ -169,7 +222,8 @@ one_more : (p : Command → Bool) (clients : List (List Command)) (has : Bool) (
 one_more p clients true commands c has is e =
     let parts = all_front (list_all p) clients (commands ∷ []) e in
     let present : list_all p commands ≡ true = first (list_all p commands) parts.1 in
-    all_append (list_all p) clients ((commands ++ c ∷ []) ∷ []) parts.0 (all_one (list_all p) (commands ++ c ∷ []) (all_append p commands (c ∷ []) present (all_one p c is)))
+    all_append (list_all p) clients ((commands ++ c ∷ []) ∷ []) parts.0
+    (all_one (list_all p) (commands ++ c ∷ []) (all_append p commands (c ∷ []) present (all_one p c is)))
   where
     first : (t : Bool) → (t && true) ≡ true → t ≡ true
     first true e = refl
@@ -184,14 +238,17 @@ command_leads all d next text late e =
     let form = unless_ok (not d.has_client) Form _ next c.then in
     let label = unless_ok c.value.1.is_twice Label _ next form.1 in
     let limit = unless_ok (is_over c.value.0 || (nat_le 4096 (length d.commands) || nat_lt 4096 c.value.1.made)) Limit _ next label.1 in
-    subst (λ m. Begins m.names all → Leads all d m) (ok_same (record d { names = c.value.1; commands = d.commands ++ c.value.0 ∷ [] }) next limit.1)
+    subst (λ m. Begins m.names all → Leads all d m)
+    (ok_same (record d { names = c.value.1; commands = d.commands ++ c.value.0 ∷ [] }) next limit.1)
     (λ b. record {
       begins = names_begin all d.names c.value.1 text c.value.0 c.given b;
       fits = λ f. record {
         planes = f.planes;
         conns = f.conns;
-        clients = subst (λ profile. list_all (list_all (is_command_in profile all)) (d.clients ++ clients_of d.has_client (d.commands ++ c.value.0 ∷ [])) ≡ true) (sym (command_stays d.names text c.value c.given))
-            (one_more (is_command_in d.names.profile all) d.clients d.has_client d.commands c.value.0 (on_from d.has_client form.0) (command_fit all d.names text c.value c.given b) f.clients);
+        clients = subst (λ profile. list_all (list_all (is_command_in profile all))
+            (d.clients ++ clients_of d.has_client (d.commands ++ c.value.0 ∷ [])) ≡ true) (sym (command_stays d.names text c.value c.given))
+            (one_more (is_command_in d.names.profile all) d.clients d.has_client d.commands c.value.0 (on_from d.has_client form.0)
+            (command_fit all d.names text c.value c.given b) f.clients);
         early = λ none. absurd (omega arith);
       };
     })
@@ -225,7 +282,8 @@ line_leads all d next text e =
 
 rows_lead : (all : List (List ℕ)) (d last : Draft) (rows : List Row) → spelt_lines d rows ≡ Some last → Begins last.names all
     → Leads all d last
-rows_lead all d last [] e b = let end = ended_draft (is_nil d.conns) d last e in subst (λ x. Begins x.names all → Leads all d x) end.1 (λ b. record { begins = b; fits = λ f. f }) b
+rows_lead all d last [] e b = let end = ended_draft (is_nil d.conns) d last e
+    in subst (λ x. Begins x.names all → Leads all d x) end.1 (λ b. record { begins = b; fits = λ f. f }) b
 rows_lead all d last (row ∷ rows) e b =
     let next = bind_some (spelt_line d row) _ last e in
     let l = is_line d next.value row next.given in

@@ -1,11 +1,13 @@
 -- The steps of a history have numbers that a line can spell.
-use Rattle.std.proofs.Common.{◌≡◌, ℕ, suc, ◌*◌, ◌<◌, ◌≤◌, List, [], ◌∷◌, length, Bool, true, false, Option, Some, None, refl, sym, ap, ◌∙◌, arith}
+use Rattle.std.proofs.Common.{◌≡◌, ℕ, suc, ◌*◌, ◌<◌, ◌≤◌, List, [], ◌∷◌, length, Bool, true, false, Option, Some, None, refl, sym, ap, ◌∙◌}
+use Rattle.std.proofs.Common.{arith}
 use Rattle.std.specs.List.{AllByRecursion}
 use Rattle.std.proofs.lemmas.Bool.{and_parts, false≢true, ltb-true}
 use Rattle.kms_model.specs.declared.objects.Kind.{Kind}
 use Rattle.kms_model.specs.declared.objects.Kind.TheVariants.{Crtc, Plane, Conn, Enc}
 use Rattle.kms_model.specs.declared.replies.Step.{Step}
-use Rattle.kms_model.specs.declared.replies.Step.TheVariants.{Begin, Lock, BackOff, Relock, Refuse, Test, Swap, Make, Signal, Claim, Write, Flush, HwDone, Vblank, Cleanup, Read, Return, Stall}
+use Rattle.kms_model.specs.declared.replies.Step.TheVariants.{Begin, Lock, BackOff, Relock, Refuse, Test, Swap, Make, Signal, Claim, Write}
+use Rattle.kms_model.specs.declared.replies.Step.TheVariants.{Flush, HwDone, Vblank, Cleanup, Read, Return, Stall}
 use Rattle.kms_model.specs.declared.runs.Doing.{Doing}
 use Rattle.kms_model.specs.declared.runs.Doing.TheVariants as doing
 use Rattle.kms_model.specs.declared.scripts.Command.{Command}
@@ -17,7 +19,9 @@ use Rattle.kms_model.specs.Machine.Commits.{is_all_written, is_claimed, is_hw_do
 use Rattle.kms_model.specs.Machine.Effects.{next}
 use Rattle.kms_model.specs.Machine.Histories.{are_legal, is_history, legal}
 use Rattle.kms_model.specs.Machine.State.{Machine, command_at, doing_at, entry_at, first_machine}
-use Rattle.kms_model.specs.Machine.Steps.{contended, idle_at, is_atomic, is_crtc_of, is_free_for, is_lockable, is_making, is_signal, is_taking, is_wait, may, may_claim, may_lock, may_refuse, may_swap, may_test, must_back_off, next_flush, taking_at}
+use Rattle.kms_model.specs.Machine.Steps.{contended, idle_at, is_atomic, is_crtc_of, is_free_for, is_lockable, is_making, is_signal}
+use Rattle.kms_model.specs.Machine.Steps.{is_taking, is_wait, may, may_claim, may_lock, may_refuse, may_swap, may_test, must_back_off}
+use Rattle.kms_model.specs.Machine.Steps.{next_flush, taking_at}
 use Rattle.kms_model.specs.Script.Schedules.{IsFitIndex, IsFitNumber, IsFitStep}
 use Rattle.kms_model.specs.Script.WellFormed.{IsWellFormed}
 use Rattle.kms_model.proofs.TouchedLemmas.{few_objects, few_of}
@@ -82,7 +86,8 @@ module _ (s : Script) (formed : IsWellFormed s) (n : ℕ) (m : Machine) (C : Cou
       let S = C.sizes.places_stand in
       let places = m.contexts.places in
       let most : all_ended s places ≤ length s.clients * 4097 =
-      sum-most (λ c. ended_at (place_of places c)) 4097 1 (length s.clients) (λ c. omega (arith, S.bound c, few_commands s c formed.clients, answered-busy (place_of places c).doing)) in
+      sum-most (λ c. ended_at (place_of places c)) 4097 1 (length s.clients)
+      (λ c. omega (arith, S.bound c, few_commands s c formed.clients, answered-busy (place_of places c).doing)) in
       omega (arith, below, S.commits_few, most, formed.few)
 
   claimed : (k : ℕ) → is_claimed m.device k ≡ true → IsFitNumber k
@@ -134,8 +139,10 @@ module _ (s : Script) (formed : IsWellFormed s) (n : ℕ) (m : Machine) (C : Cou
       (claimed k both.0, number-exists kind index (and_parts (exists s.topology kind index) _ both.1).0)
   step_fits (Flush k kind index) h =
       let both = and_parts (is_all_written s.topology m.device k) _ (and_parts _ _ h).1 in
-      let named = and_parts (exists s.topology kind index) _ both.1 in
-      (flushing k (object_id kind index) both.0 (value-is (object_id kind index) (next_flush s.topology m.device k) named.1), number-exists kind index named.0)
+      let named = and_parts (exists s.topology kind index) _ both.1 in (
+        flushing k (object_id kind index) both.0 (value-is (object_id kind index) (next_flush s.topology m.device k) named.1),
+        number-exists kind index named.0,
+      )
   step_fits (HwDone k) h = claimed k (and_parts (is_claimed m.device k) _ (and_parts _ _ h).1).0
   step_fits (Vblank kind index) h = crtc-exists kind index (and_parts (is_crtc_of s.topology kind index) _ (and_parts _ _ h).1).0
   step_fits (Cleanup k) h = done k (and_parts (is_hw_done m.device k) _ (and_parts _ _ h).1).0
@@ -149,8 +156,11 @@ fit_along : (s : Script) (formed : IsWellFormed s) (h : List Step) (n : ℕ) (m 
 unfolding are_legal
 fit_along s formed [] n m C is = tt
 fit_along s formed (step ∷ h) n m C is =
-    let both = and_parts (legal s m step) _ is in
-    (step_fits s formed n m C step both.0, fit_along s formed h (suc n) (next s m step) (step_counted s (plain-from s formed) n m step C both.0) both.1)
+    let both = and_parts (legal s m step) _ is in (
+      step_fits s formed n m C step both.0,
+      fit_along s formed h (suc n) (next s m step)
+          (step_counted s (plain-from s formed) n m step C both.0) both.1,
+    )
 
 pub history_fits : (s : Script) (h : List Step) → IsWellFormed s → is_history s h ≡ true → AllByRecursion IsFitStep h
 history_fits s h formed is = fit_along s formed h 0 (first_machine s.topology) (first_counted s (plain-from s formed)) is

@@ -1,5 +1,6 @@
 -- What was read of words and fields is within the bounds of a well-formed script.
-use Rattle.std.proofs.Common.{◌≡◌, ℕ, ◌+◌, ◌-◌, ◌*◌, ◌<◌, ◌≤◌, ◌^◌, zero, suc, inl, inr, Bool, true, false, List, [], ◌∷◌, ◌++◌, length, replicate, cond, Option, Some, None, ℤ, pos, negsuc, neg_ℤ, refl, sym, ap, arith}
+use Rattle.std.proofs.Common.{◌≡◌, ℕ, ◌+◌, ◌-◌, ◌*◌, ◌<◌, ◌≤◌, ◌^◌, zero, suc, inl, inr, Bool, true, false, List, [], ◌∷◌, ◌++◌, length}
+use Rattle.std.proofs.Common.{replicate, cond, Option, Some, None, ℤ, pos, negsuc, neg_ℤ, refl, sym, ap, arith}
 use Rattle.std.specs.Prelude.{◌==◌, ◌&&◌, codes, int_le, nat_le, nat_lt, option_map}
 use Rattle.std.specs.List.{list_all}
 use Rattle.std.specs.Option.{option_map_or}
@@ -14,10 +15,14 @@ use Rattle.kms_model.specs.declared.objects.Kind.TheVariants.{Crtc, Plane, Conn,
 use Rattle.kms_model.specs.declared.objects.Mode.{Mode}
 use Rattle.kms_model.specs.declared.scripts.Pattern.{Pattern}
 use Rattle.kms_model.specs.declared.scripts.Pattern.TheVariants.{Pixels}
-use Rattle.kms_model.specs.Script.CommandLines.{checker_at, each_pixel_at, five_at, label_alone, mode_fields, pattern_at, pixels_at, ramp_at, solid_at}
-use Rattle.kms_model.specs.Script.Grammar.{blob_bytes, digits_of, hex, hex_at, hex_bytes, hex_pair, indexed, int, is_hex_number, negative, object, pixel_at, pixel_number}
-use Rattle.kms_model.specs.Script.WellFormed.{are_words16, has_widths, is_integer, is_mode_name, is_pattern_of, is_pixel_of, is_word16, is_word32}
-use Rattle.kms_model.specs.Script.Words.{between, dec, dec_at, end_at, field_at, hex_from, hex_value, is_digit, is_hex, is_label, is_name_byte, label_at, name_at, strip}
+use Rattle.kms_model.specs.Script.CommandLines.{checker_at, each_pixel_at, five_at, label_alone, mode_fields, pattern_at, pixels_at}
+use Rattle.kms_model.specs.Script.CommandLines.{ramp_at, solid_at}
+use Rattle.kms_model.specs.Script.Grammar.{blob_bytes, digits_of, hex, hex_at, hex_bytes, hex_pair, indexed, int, is_hex_number, negative}
+use Rattle.kms_model.specs.Script.Grammar.{object, pixel_at, pixel_number}
+use Rattle.kms_model.specs.Script.WellFormed.{are_words16, has_widths, is_integer, is_mode_name, is_pattern_of, is_pixel_of, is_word16}
+use Rattle.kms_model.specs.Script.WellFormed.{is_word32}
+use Rattle.kms_model.specs.Script.Words.{between, dec, dec_at, end_at, field_at, hex_from, hex_value, is_digit, is_hex, is_label}
+use Rattle.kms_model.specs.Script.Words.{is_name_byte, label_at, name_at, strip}
 use Rattle.kms_script.proofs.Decimals.{dec_at_most}
 use Rattle.kms_script.proofs.Inverted.{bind_some, choice_some, from_bind, if_some, map_some, or_some, some_same}
 use Rattle.kms_script.proofs.ReadParts.{checker_parts, five_parts, hex_parts, mode_parts, name_parts}
@@ -40,8 +45,10 @@ hex_below : (n : ℕ) (ds : List ℕ) → list_all is_hex ds ≡ true → hex_fr
 hex_below n [] e = omega arith
 hex_below n (d ∷ ds) e =
     let p = and_parts (is_hex d) (list_all is_hex ds) e in
-    let below : hex_from (n * 16 + hex_value d) ds < (n * 16 + hex_value d + 1) * 16 ^ length ds = hex_below (n * 16 + hex_value d) ds p.1 in
-    let fits : (n * 16 + hex_value d + 1) * 16 ^ length ds ≤ (n + 1) * (16 ^ length ds * 16) = digit_fits n (hex_value d) (16 ^ length ds) (small_digit d p.0) in
+    let below : hex_from (n * 16 + hex_value d) ds < (n * 16 + hex_value d + 1) * 16 ^ length ds = hex_below (n * 16 + hex_value d) ds p.1
+    in
+    let fits : (n * 16 + hex_value d + 1) * 16 ^ length ds ≤ (n + 1)
+    * (16 ^ length ds * 16) = digit_fits n (hex_value d) (16 ^ length ds) (small_digit d p.0) in
     rw (pow-suc 16 (length ds)) (omega (arith, below, fits))
 
 hex_of_length : (ds : List ℕ) → list_all is_hex ds ≡ true → hex_from 0 ds < 16 ^ length ds
@@ -58,7 +65,8 @@ unfolding pixel_number
 pixel_fit format p word e =
     let read = if_some ((length word == digits_of format) && list_all is_hex word) (Some (hex_from 0 word)) p e in
     let parts = and_parts (length word == digits_of format) (list_all is_hex word) read.0 in
-    let small : hex_from 0 word < 16 ^ digits_of format = rw (eqb-true (length word) (digits_of format) parts.0) at (hex_of_length word parts.1) in
+    let small : hex_from 0 word < 16 ^ digits_of format = rw (eqb-true (length word) (digits_of format) parts.0) at
+    (hex_of_length word parts.1) in
     rw (← some_same (hex_from 0 word) p read.1) (lt_test (hex_from 0 word) (16 ^ digits_of format) small)
 
 plain_digits : (ds : List ℕ) → is_hex_number ds ≡ true → list_all is_hex ds ≡ true
@@ -116,7 +124,11 @@ pixels_fit format (suc n) bytes ps e =
     from_bind (pixel_at format bytes) _ ps e (λ p first more.
     from_bind (pixels_at format n p.1) _ ps more (λ qs later more.
     let rest = pixels_fit format n p.1 qs later in
-    rw (← some_same _ ps more) (ap suc rest.0, and_from (is_pixel_of format p.0) (list_all (is_pixel_of format) qs) (pixel_at_fit format bytes p first) rest.1)))
+    rw (← some_same _ ps more) (
+      ap suc rest.0,
+      and_from (is_pixel_of format p.0) (list_all (is_pixel_of format) qs)
+          (pixel_at_fit format bytes p first) rest.1,
+    )))
 
 equal_test : (n m : ℕ) → n ≡ m → (n == m) ≡ true
 equal_test n m same = grind (arith, nat_tests)
@@ -137,7 +149,8 @@ checker_fit width height format bytes p e =
     let c = checker_parts format bytes p e in
     rw (← c.makes)
     (and_from (is_pixel_of format c.p.0) (is_pixel_of format c.q.0 && between 1 4096 c.n.0) (pixel_at_fit format bytes c.p c.first)
-    (and_from (is_pixel_of format c.q.0) (between 1 4096 c.n.0) (pixel_at_fit format c.p.1 c.q c.second) (sides c.n.0 c.some (dec_at_fit 4096 c.q.1 c.n c.side))))
+    (and_from (is_pixel_of format c.q.0) (between 1 4096 c.n.0) (pixel_at_fit format c.p.1 c.q c.second)
+    (sides c.n.0 c.some (dec_at_fit 4096 c.q.1 c.n c.side))))
   where
     sides : (n : ℕ) → nat_lt 0 n ≡ true → n ≤ 4096 → between 1 4096 n ≡ true
     sides n some few = grind (arith, nat_tests)
@@ -154,7 +167,8 @@ each_fit width height format bytes p e =
     let all = pixels_fit format (width * height) bytes m.value m.given in
     rw (← m.makes)
     (and_from (between 1 256 (width * height)) ((length m.value == width * height) && list_all (is_pixel_of format) m.value) read.0
-    (and_from (length m.value == width * height) (list_all (is_pixel_of format) m.value) (equal_test (length m.value) (width * height) all.0) all.1))
+    (and_from (length m.value == width * height) (list_all (is_pixel_of format) m.value)
+    (equal_test (length m.value) (width * height) all.0) all.1))
 
 pub pattern_fit : (width height : ℕ) (format : Format) (bytes : List ℕ) (p : Pattern) → pattern_at width height format bytes ≡ Some p
     → is_pattern_of format width height p ≡ true
@@ -191,10 +205,13 @@ five_fit : (bytes : List ℕ) (r : ℕ × ℕ × ℕ × ℕ × ℕ × List ℕ) 
 five_fit bytes r e =
     let p = five_parts bytes r e in
     rw (← p.makes)
-    (and_from (is_word16 p.a.0) (is_word16 p.b.0 && (is_word16 p.c.0 && (is_word16 p.d.0 && is_word16 p.e.0))) (word16_fit p.a.0 (dec_at_fit 65535 bytes p.a p.first))
-    (and_from (is_word16 p.b.0) (is_word16 p.c.0 && (is_word16 p.d.0 && is_word16 p.e.0)) (word16_fit p.b.0 (dec_at_fit 65535 p.a.1 p.b p.second))
+    (and_from (is_word16 p.a.0) (is_word16 p.b.0 && (is_word16 p.c.0 && (is_word16 p.d.0 && is_word16 p.e.0)))
+    (word16_fit p.a.0 (dec_at_fit 65535 bytes p.a p.first))
+    (and_from (is_word16 p.b.0) (is_word16 p.c.0 && (is_word16 p.d.0 && is_word16 p.e.0))
+    (word16_fit p.b.0 (dec_at_fit 65535 p.a.1 p.b p.second))
     (and_from (is_word16 p.c.0) (is_word16 p.d.0 && is_word16 p.e.0) (word16_fit p.c.0 (dec_at_fit 65535 p.b.1 p.c p.third))
-    (and_from (is_word16 p.d.0) (is_word16 p.e.0) (word16_fit p.d.0 (dec_at_fit 65535 p.c.1 p.d p.fourth)) (word16_fit p.e.0 (dec_at_fit 65535 p.d.1 p.e p.fifth))))))
+    (and_from (is_word16 p.d.0) (is_word16 p.e.0) (word16_fit p.d.0 (dec_at_fit 65535 p.c.1 p.d p.fourth))
+    (word16_fit p.e.0 (dec_at_fit 65535 p.d.1 p.e p.fifth))))))
 
 pub mode_fit : (bytes : List ℕ) (m : Mode × List ℕ) → mode_fields bytes ≡ Some m → (has_widths m.0 && is_mode_name m.0.name) ≡ true
 mode_fit bytes m e =
@@ -204,7 +221,8 @@ mode_fit bytes m e =
     (and_from (are_words16 p.h.0 p.h.1 p.h.2 p.h.3 p.h.4) _ (five_fit p.clock.1 p.h p.across)
     (and_from (are_words16 p.v.0 p.v.1 p.v.2 p.v.3 p.v.4) _ (five_fit p.h.5 p.v p.down)
     (and_from (is_word32 p.r.0) _ (word_fit p.r.0 (dec_at_fit 4294967295 p.v.5 p.r p.rate))
-    (and_from (is_word32 p.f.0) (is_word32 p.k.0) (word_fit p.f.0 (dec_at_fit 4294967295 p.r.1 p.f p.flags)) (word_fit p.k.0 (dec_at_fit 4294967295 p.f.1 p.k p.kind)))))))
+    (and_from (is_word32 p.f.0) (is_word32 p.k.0) (word_fit p.f.0 (dec_at_fit 4294967295 p.r.1 p.f p.flags))
+    (word_fit p.k.0 (dec_at_fit 4294967295 p.f.1 p.k p.kind)))))))
     (name_fit p.k.1 p.n p.name))
 
 -- Blobs
@@ -226,7 +244,10 @@ bytes_fit bytes (a ∷ b ∷ more) e =
     from_bind (hex_pair a b) _ bytes e (λ x pair rest.
     from_bind (hex_bytes more) _ bytes rest (λ xs later rest.
     let all = bytes_fit xs more later in
-    rw (← some_same _ bytes rest) (twice (length more) (length xs) all.0, and_from (nat_lt x 256) (list_all (λ b. nat_lt b 256) xs) (pair_fit a b x pair) all.1)))
+    rw (← some_same _ bytes rest) (
+      twice (length more) (length xs) all.0,
+      and_from (nat_lt x 256) (list_all (λ b. nat_lt b 256) xs) (pair_fit a b x pair) all.1,
+    )))
   where
     twice : (n m : ℕ) → n ≡ 2 * m → suc (suc n) ≡ 2 * suc m
     twice n m e = omega (arith, e)
@@ -242,7 +263,8 @@ blob_fit word bytes e =
     parts n e = let p = and_parts (nat_le 2 n) (nat_le n 4096) e in (leb-true 2 n p.0, leb-true n 4096 p.1)
 
     sides : (n m : ℕ) → between 2 4096 n ≡ true → n ≡ 2 * m → between 1 2048 m ≡ true
-    sides n m e same = let p = parts n e in and_from (nat_le 1 m) (nat_le m 2048) (le_test 1 m (omega (arith, p.0, same))) (le_test m 2048 (omega (arith, p.1, same)))
+    sides n m e same = let p = parts n e in and_from (nat_le 1 m) (nat_le m 2048) (le_test 1 m (omega (arith, p.0, same)))
+        (le_test m 2048 (omega (arith, p.1, same)))
 
 -- Labels
 
@@ -272,13 +294,15 @@ negative_fit z digits e =
     step (suc n) false le is e = rw (← some_same (negsuc n) z e) (within n (omega (arith, le)))
       where
         within : (n : ℕ) → n ≤ 9223372036854775807 → is_integer (negsuc n) ≡ true
-        within n le = and_from (int_le (negsuc 9223372036854775807) (negsuc n)) (int_le (negsuc n) (pos 18446744073709551615)) (le_test n 9223372036854775807 le) refl
+        within n le = and_from (int_le (negsuc 9223372036854775807) (negsuc n)) (int_le (negsuc n) (pos 18446744073709551615))
+            (le_test n 9223372036854775807 le) refl
 
 pub int_fit : (z : ℤ) (word : List ℕ) → int word ≡ Some z → is_integer z ≡ true
 unfolding int
 int_fit z word e = elim (or_some negative (strip (codes "-") word) (option_map pos (dec 18446744073709551615 word)) z e) [
   | inl b ↦ negative_fit z b.value b.then
-  | inr d ↦ (let m = map_some pos (dec 18446744073709551615 word) z d in rw (← m.makes) (le_test m.value 18446744073709551615 (dec_at_most 18446744073709551615 m.value word m.given)))
+  | inr d ↦ (let m = map_some pos (dec 18446744073709551615 word) z d
+      in rw (← m.makes) (le_test m.value 18446744073709551615 (dec_at_most 18446744073709551615 m.value word m.given)))
 ]
 
 kind_or : (kind : Kind) (o : Kind × ℕ) (rest other : Option (List ℕ)) (more : Option (Kind × ℕ)) → (more ≡ Some o → nat_le o.1 255 ≡ true)

@@ -1,5 +1,6 @@
 -- What was read within the limits is a well-formed script.
-use Rattle.std.proofs.Common.{◌≡◌, ℕ, zero, suc, ◌<◌, ◌≤◌, ◌^◌, ◌⊎◌, inl, inr, Bool, true, false, List, [], ◌∷◌, length, refl, sym, subst, arith}
+use Rattle.std.proofs.Common.{◌≡◌, ℕ, zero, suc, ◌<◌, ◌≤◌, ◌^◌, ◌⊎◌, inl, inr, Bool, true, false, List, [], ◌∷◌, length, refl, sym, subst}
+use Rattle.std.proofs.Common.{arith}
 use Rattle.std.specs.Prelude.{◌&&◌, All, not}
 use Rattle.std.specs.List.{AllByRecursion, IsDistinct, list_all}
 use Rattle.std.specs.Str.{bytes_eq}
@@ -49,10 +50,15 @@ legal_device : (d : Draft) → IsFitDevice d → 0 < length d.conns → is_legal
 legal_device d fit some =
     let count : IsFitCount d.crtcs = fit.crtcs (late_head d fit some (early_or_late d.head)) in
     let crtcs : between 1 4 d.crtcs ≡ true = is_between 1 4 d.crtcs count.some count.few in
-    let planes : between 1 16 (length d.planes) ≡ true = is_between 1 16 (length d.planes) (omega (arith, fit.some_planes some)) fit.few_planes in
+    let planes : between 1 16 (length d.planes) ≡ true = is_between 1 16 (length d.planes) (omega (arith, fit.some_planes some))
+    fit.few_planes in
     let conns : between 1 8 (length d.conns) ≡ true = is_between 1 8 (length d.conns) (omega arith) fit.few_conns in
-    let masks : list_all (has_legal_masks d.crtcs) d.planes ≡ true = each_passes (IsFitPlane d.crtcs) (has_legal_masks d.crtcs) (legal_plane d.crtcs) d.planes (by_recursion (IsFitPlane d.crtcs) d.planes fit.planes) in
-    let routes : list_all (is_mask_below d.crtcs) d.conns ≡ true = each_passes (IsFitMask d.crtcs) (is_mask_below d.crtcs) (legal_mask d.crtcs) d.conns (by_recursion (IsFitMask d.crtcs) d.conns fit.conns) in
+    let masks : list_all (has_legal_masks d.crtcs) d.planes
+    ≡ true = each_passes (IsFitPlane d.crtcs) (has_legal_masks d.crtcs) (legal_plane d.crtcs) d.planes
+    (by_recursion (IsFitPlane d.crtcs) d.planes fit.planes) in
+    let routes : list_all (is_mask_below d.crtcs) d.conns
+    ≡ true = each_passes (IsFitMask d.crtcs) (is_mask_below d.crtcs) (legal_mask d.crtcs) d.conns
+    (by_recursion (IsFitMask d.crtcs) d.conns fit.conns) in
     rw (crtcs, planes, conns, masks, routes) refl
 
 pub ended_device : (d : Draft) → IsFitDevice d → IsFitDevice (ended d)
@@ -81,7 +87,13 @@ keeps_own d names clients fit some each few differ = record {
 
 -- the script of a draft with a profile
 abbrev pub of_profile : Draft → ℕ → List (List ℕ) → List (List Command) → Script
-of_profile d profile names clients = record { version = profile; topology = record { profile = profile; crtcs = d.crtcs; planes = d.planes; conns = d.conns }; names = names; clients = clients }
+of_profile d profile names clients = record {
+  version = profile;
+  topology =
+      record { profile = profile; crtcs = d.crtcs; planes = d.planes; conns = d.conns };
+  names = names;
+  clients = clients;
+}
 
 pub keeps_limits : (d : Draft) (profile : ℕ) (names : List (List ℕ)) (clients : List (List Command)) → profile ≡ d.names.profile
     → IsFitDevice d → 0 < length d.conns → All IsFitClient clients → length clients ≤ 16 → IsDistinct bytes_eq names

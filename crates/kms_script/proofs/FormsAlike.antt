@@ -5,7 +5,9 @@ use Rattle.std.specs.Option.{option_map_or}
 use Rattle.std.specs.Str.{bytes_eq}
 use Rattle.kms_model.specs.declared.scripts.Command.{Command}
 use Rattle.kms_model.specs.declared.scripts.Command.TheVariants as command
-use Rattle.kms_model.specs.Script.CommandLines.{Names, addfb_read, assign_read, assign_words, assigns_read, atomic_read, blob_read, buffer_read, command_read, label_alone, label_read, making_read, mode_fields, mode_read, naming_read, pattern_at, property_read, thing_read, value_read}
+use Rattle.kms_model.specs.Script.CommandLines.{Names, addfb_read, assign_read, assign_words, assigns_read, atomic_read, blob_read}
+use Rattle.kms_model.specs.Script.CommandLines.{buffer_read, command_read, label_alone, label_read, making_read, mode_fields, mode_read}
+use Rattle.kms_model.specs.Script.CommandLines.{naming_read, pattern_at, property_read, thing_read, value_read}
 use Rattle.kms_model.specs.Script.Grammar.{blob_bytes, field_words, format_at, hex_at, int}
 use Rattle.kms_model.specs.Script.Words.{◌>>=◌, dec, dec_at, end_at, field_at, from, is_label, label_at, strip, until}
 

@@ -7,7 +7,8 @@ use Rattle.kms_model.specs.declared.scripts.Part.{Part}
 use Rattle.kms_model.specs.declared.scripts.Part.TheVariants as part
 use Rattle.kms_model.specs.declared.scripts.Script.{Script}
 use Rattle.kms_model.specs.Script.InputLines.{Fault, Row, input_limit, rows_of}
-use Rattle.kms_model.specs.Script.Schedules.{Parts, at_end_of_lines, behind_script, ends_script, input_of, parts_after, steps_in, with_schedule}
+use Rattle.kms_model.specs.Script.Schedules.{Parts, at_end_of_lines, behind_script, ends_script, input_of, parts_after, steps_in}
+use Rattle.kms_model.specs.Script.Schedules.{with_schedule}
 use Rattle.kms_model.specs.Script.Spelling.{Spells, spelling, spelt_lines}
 use Rattle.kms_model.specs.Script.WholeInput.{Draft, blank_draft, is_nil, line_after, lines_after, missing_line, script_in}
 use Rattle.kms_script.proofs.Accepted.{either_ok}
@@ -51,7 +52,8 @@ record EndsWell (d : Draft) (x : Parts) : Type 0 where
 end_well : (none : Bool) (n size : ℕ) (d : Draft) (x : Parts) → is_nil d.conns ≡ none
     → cond none (Err (missing_line n)) (given (parts_of (script_in d) [] size)) ≡ Ok x → EndsWell d x
 end_well true n size d x is e = absurd cc
-end_well false n size d x is e = let same = same_parts (parts_of (script_in d) [] size) x e in record { some = is; makes = ap (λ (y : Parts). y.script) same; none = sym (ap (λ (y : Parts). y.steps) same) }
+end_well false n size d x is e = let same = same_parts (parts_of (script_in d) [] size) x e
+    in record { some = is; makes = ap (λ (y : Parts). y.script) same; none = sym (ap (λ (y : Parts). y.steps) same) }
 
 end_of : (p : Part) (size n : ℕ) (d : Draft) (x : Parts) → at_end_of_lines p size d n ≡ Ok x → EndsWell d x
 end_of part.Script size n d x e = end_well (is_nil d.conns) n size d x refl e
@@ -90,9 +92,18 @@ unfolding lines_after
 line_in_front p size n d next row rows x e f =
     record { front = row ∷ f.front; last = f.last; read = rw e f.read; makes = f.makes; behind = onto f.behind }
   where
-    onto : ((rows ≡ f.front) × (x.steps ≡ [])) ⊎ HasEnd p size f.last f.front rows x → ((row ∷ rows ≡ row ∷ f.front) × (x.steps ≡ [])) ⊎ HasEnd p size f.last (row ∷ f.front) (row ∷ rows) x
+    onto : ((rows ≡ f.front) × (x.steps ≡ [])) ⊎ HasEnd p size f.last f.front rows x → ((row ∷ rows ≡ row ∷ f.front) × (x.steps ≡ []))
+        ⊎ HasEnd p size f.last (row ∷ f.front) (row ∷ rows) x
     onto (inl none) = inl (ap (λ (rs : List Row). row ∷ rs) none.0, none.1)
-    onto (inr end) = inr (record { line = end.line; row = end.row; more = end.more; are = ap (λ (rs : List Row). row ∷ rs) end.are; ends = end.ends; then = end.then })
+    onto (inr end) = inr (record {
+      line = end.line;
+      row = end.row;
+      more = end.more;
+      are = ap (λ (rs : List Row). row ∷ rs) end.are;
+      ends =
+          end.ends;
+      then = end.then;
+    })
 
 -- the lines of the script that an input has
 has_front : (p : Part) (size n : ℕ) (d : Draft) (rows : List Row) (x : Parts) → parts_after p size d n rows ≡ Ok x
@@ -102,7 +113,8 @@ has_front p size n d [] x e = no_line_more p size n d x (end_of p size n d x e)
 has_front p size n d (row ∷ rows) x e =
     elim (either_ok (ends_script p d row) (behind_script p size d n row rows) _ (given x) e) [
       | inl ended ↦ line_that_ends p size n d row rows x ended.0 ended.1
-      | inr more ↦ (let u = no_fault n (line_after d row) _ x more.1 in line_in_front p size n d u.next row rows x u.is (has_front p size (n + 1) u.next rows x u.then))
+      | inr more ↦ (let u = no_fault n (line_after d row) _ x more.1
+          in line_in_front p size n d u.next row rows x u.is (has_front p size (n + 1) u.next rows x u.then))
     ]
 
 not_long : (long : Bool) (fault : Fault) (r : Result Parts Fault) (x : Parts) → cond long (Err fault) r ≡ Ok x → r ≡ Ok x
@@ -125,7 +137,8 @@ pub front_text : (n : ℕ) (last : Draft) (front : List Row) (s : Script) → li
 front_text n last front s read makes =
     let spelt : spelt_lines blank_draft front ≡ Some (resized 0 last) = read_is_spelt 0 n blank_draft last front read in
     let text = rows_are_text (resized 0 last) front spelt in
-    let same : rows_of (spelling (script_in last)) ≡ front = ap rows_of (sym text.1) ∙ rows_alone blank_draft (resized 0 last) front spelt in
+    let same : rows_of (spelling (script_in last)) ≡ front = ap rows_of (sym text.1) ∙ rows_alone blank_draft (resized 0 last) front spelt
+    in
     record {
       ended = text.0;
       text = text.1 ∙ ap spelling makes;

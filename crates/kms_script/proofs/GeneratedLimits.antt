@@ -84,7 +84,8 @@ apart_from w (v ∷ vs) all = let p = and_parts (not (bytes_eq w v)) _ all in (d
 distinct : (ws : List (List ℕ)) → are_apart ws ≡ true → IsDistinct bytes_eq ws
 unfolding IsDistinct
 distinct [] all = tt
-distinct (w ∷ ws) all = let p = and_parts (list_all (λ v. not (bytes_eq w v)) ws) (are_apart ws) all in (apart_from w ws p.0, distinct ws p.1)
+distinct (w ∷ ws) all = let p = and_parts (list_all (λ v. not (bytes_eq w v)) ws) (are_apart ws) all
+    in (apart_from w ws p.0, distinct ws p.1)
 
 -- The device
 

@@ -1,5 +1,6 @@
 -- The lines of a commit and of the wait for its event are read as these commands.
-use Rattle.std.proofs.Common.{◌≡◌, ℕ, zero, suc, ◌<◌, ◌≤◌, ◌%◌, ◌/◌, Bool, true, false, List, [], ◌∷◌, ◌++◌, map, Some, refl, ◌∙◌, codes, arith}
+use Rattle.std.proofs.Common.{◌≡◌, ℕ, zero, suc, ◌<◌, ◌≤◌, ◌%◌, ◌/◌, Bool, true, false, List, [], ◌∷◌, ◌++◌, map, Some, refl, ◌∙◌, codes}
+use Rattle.std.proofs.Common.{arith}
 use Rattle.std.specs.Prelude.{◌==◌, if◌then◌else◌, pos}
 use Rattle.std.specs.Fmt.{decimal}
 use Rattle.std.specs.List.{list_all}
@@ -15,7 +16,8 @@ use Rattle.kms_model.specs.declared.scripts.Command.TheVariants.{Atomic}
 use Rattle.kms_model.specs.declared.scripts.PropRef.TheVariants.{Known}
 use Rattle.kms_model.specs.declared.scripts.Value.{Value}
 use Rattle.kms_model.specs.declared.scripts.Value.TheVariants.{Num, Named}
-use Rattle.kms_model.specs.Script.CommandLines.{Names, assign_read, assign_words, assigns_read, atomic_read, command_read, property_read, value_read}
+use Rattle.kms_model.specs.Script.CommandLines.{Names, assign_read, assign_words, assigns_read, atomic_read, command_read, property_read}
+use Rattle.kms_model.specs.Script.CommandLines.{value_read}
 use Rattle.kms_model.specs.Script.Generated.{Drawn, drawn_framebuffer, framebuffer_f, framebuffer_h, names_of_client, on_plane}
 use Rattle.kms_model.specs.Script.Grammar.{hex, is_printable}
 use Rattle.kms_model.specs.Script.Words.{is_digit}
@@ -37,10 +39,16 @@ set_read names word given prop kind index id v parts of_prop of_value = rw (part
 
 request_read : (names : Names) (index : ℕ) (ws : List (List ℕ)) (sets : List Assign) → index ≤ 18446744073709551615
     → list_all (list_all is_inner) ws ≡ true → assigns_read names ws ≡ Some (sets, names)
-    → atomic_read names (fields (codes "0x1" ∷ decimal index ∷ ws)) ≡ Some (Atomic (record { flags = PAGE_FLIP_EVENT; user_data = index; assigns = sets }), names)
+    → atomic_read names (fields (codes "0x1" ∷ decimal index ∷ ws))
+    ≡ Some (Atomic (record { flags = PAGE_FLIP_EVENT; user_data = index; assigns = sets }), names)
 unfolding atomic_read hex
 request_read names index ws sets le inner given =
-    rw (field_of (codes "0x1") (decimal index ∷ ws) refl, number_of 18446744073709551615 index ws (omega arith) le, words_of_fields ws inner, given) refl
+    rw (
+      field_of (codes "0x1") (decimal index ∷ ws) refl,
+      number_of 18446744073709551615 index ws (omega arith) le,
+      words_of_fields ws inner,
+      given,
+    ) refl
 
 three_read : (names : Names) (u v w : List ℕ) (a b c : Assign) → assign_read names u ≡ Some (a, names)
     → assign_read names v ≡ Some (b, names) → assign_read names w ≡ Some (c, names)
@@ -91,7 +99,8 @@ abbrev pub flip_text : ℕ → Drawn → List ℕ
 flip_text crtc d = codes "atomic" ++ fields (codes "0x1" ∷ decimal d.index ∷ set_words crtc d)
 
 abbrev sets : ℕ → Drawn → List Assign
-sets crtc d = on_plane crtc FB_ID (Named (drawn_framebuffer crtc d.number)) ∷ on_plane crtc ALPHA (Num (pos (alpha d))) ∷ on_plane crtc CRTC_X (Num (pos (left d))) ∷ []
+sets crtc d = on_plane crtc FB_ID (Named (drawn_framebuffer crtc d.number)) ∷ on_plane crtc ALPHA (Num (pos (alpha d)))
+    ∷ on_plane crtc CRTC_X (Num (pos (left d))) ∷ []
 
 abbrev pub commit : ℕ → Drawn → Command
 commit crtc d = Atomic (record { flags = PAGE_FLIP_EVENT; user_data = d.index; assigns = sets crtc d })
@@ -103,7 +112,8 @@ shown_by even crtc = if even then framebuffer_f crtc else framebuffer_h crtc
 show_read : (crtc : ℕ) → crtc < 2 → (even : Bool)
     → assign_read (names_before crtc) (shows crtc even) ≡ Some (on_plane crtc FB_ID (Named (shown_by even crtc)), names_before crtc)
 unfolding on_scripts
-show_read crtc lt even = by_crtc (λ c. assign_read (names_before c) (shows c even) ≡ Some (on_plane c FB_ID (Named (shown_by even c)), names_before c)) (first even) (second even) crtc lt
+show_read crtc lt even = by_crtc (λ c. assign_read (names_before c) (shows c even)
+    ≡ Some (on_plane c FB_ID (Named (shown_by even c)), names_before c)) (first even) (second even) crtc lt
   where
     first : (even : Bool) → assign_read (names_before 0) (shows 0 even) ≡ Some (on_plane 0 FB_ID (Named (shown_by even 0)), names_before 0)
     first true = refl
@@ -140,14 +150,17 @@ sets_read crtc d lt =
     let names = names_before crtc in
     three_read names _ _ _ _ _ _
     (show_read crtc lt (d.number % 2 == 0))
-    (set_read names _ (decimal (alpha d)) (codes "alpha") Plane crtc ALPHA _ (fade_parts (decimal (alpha d)) crtc lt) (of_alpha crtc lt) (number_value names (alpha d) (alpha_small d)))
-    (set_read names _ (decimal (left d)) (codes "CRTC_X") Plane crtc CRTC_X _ (move_parts (decimal (left d)) crtc lt) (of_left crtc lt) (number_value names (left d) (left_small d)))
+    (set_read names _ (decimal (alpha d)) (codes "alpha") Plane crtc ALPHA _ (fade_parts (decimal (alpha d)) crtc lt) (of_alpha crtc lt)
+    (number_value names (alpha d) (alpha_small d)))
+    (set_read names _ (decimal (left d)) (codes "CRTC_X") Plane crtc CRTC_X _ (move_parts (decimal (left d)) crtc lt) (of_left crtc lt)
+    (number_value names (left d) (left_small d)))
 
 -- Bytes
 
 module _ (p : ℕ → Bool) (digits : (n : ℕ) → n ≤ 18446744073709551615 → list_all p (decimal n) ≡ true) where
   -- what holds of the bytes of each assignment
-  sets_pass : (crtc : ℕ) (d : Drawn) → list_all p (shows crtc (d.number % 2 == 0)) ≡ true → list_all p (fades crtc) ≡ true → list_all p (moves crtc) ≡ true → list_all (list_all p) (set_words crtc d) ≡ true
+  sets_pass : (crtc : ℕ) (d : Drawn) → list_all p (shows crtc (d.number % 2 == 0)) ≡ true → list_all p (fades crtc) ≡ true
+      → list_all p (moves crtc) ≡ true → list_all (list_all p) (set_words crtc d) ≡ true
   sets_pass crtc d show fade move =
       let faded = list_all-append p (fades crtc) (decimal (alpha d)) ∙ and_from _ _ fade (digits (alpha d) (alpha_small d)) in
       let moved = list_all-append p (moves crtc) (decimal (left d)) ∙ and_from _ _ move (digits (left d) (left_small d)) in

@@ -1,5 +1,6 @@
 -- The text of a generated script spells it.
-use Rattle.std.proofs.Common.{◌≡◌, ℕ, zero, suc, ◌+◌, ◌-◌, ◌<◌, ◌≤◌, ◌%◌, Bool, true, false, List, [], ◌∷◌, ◌++◌, length, cond, Option, Some, Ok, append_assoc, append-nil, refl, ap, sym, ◌∙◌, codes, arith}
+use Rattle.std.proofs.Common.{◌≡◌, ℕ, zero, suc, ◌+◌, ◌-◌, ◌<◌, ◌≤◌, ◌%◌, Bool, true, false, List, [], ◌∷◌, ◌++◌, length, cond, Option}
+use Rattle.std.proofs.Common.{Some, Ok, append_assoc, append-nil, refl, ap, sym, ◌∙◌, codes, arith}
 use Rattle.std.specs.Prelude.{◌==◌, if◌then◌else◌, option_map}
 use Rattle.std.specs.List.{AllByRecursion, flat_map, list_all}
 use Rattle.std.proofs.lemmas.Bool.{lt-leb}
@@ -41,7 +42,8 @@ line_spelt d next text rest plain e = rw (first_row text rest plain, plain, e) r
 
 module _ (clients : List (List Command)) where
   -- a command that says no new name
-  command_done : (crtc : ℕ) (commands : List Command) (text : List ℕ) (c : Command) → length commands < 4096 → is_over c ≡ false → command_read (names_before crtc) text ≡ Some (c, names_before crtc)
+  command_done : (crtc : ℕ) (commands : List Command) (text : List ℕ) (c : Command) → length commands < 4096 → is_over c ≡ false
+      → command_read (names_before crtc) text ≡ Some (c, names_before crtc)
       → command_line (at_client crtc clients commands) text ≡ Ok (at_client crtc clients (commands ++ c ∷ []))
   unfolding command_line
   command_done zero commands text c few small read = rw (read, small, lt-leb 4096 (length commands) few) refl
@@ -52,7 +54,8 @@ module _ (clients : List (List Command)) where
   unfolding script_line later_line
   flip_line crtc commands d lt le few = command_done crtc commands (flip_text crtc d) (commit crtc d) few refl (flip_read crtc d lt le)
 
-  wait_line : (crtc : ℕ) (commands : List Command) → length commands < 4096 → script_line (at_client crtc clients commands) (codes "wait") ≡ Ok (at_client crtc clients (commands ++ Wait ∷ []))
+  wait_line : (crtc : ℕ) (commands : List Command) → length commands < 4096 → script_line (at_client crtc clients commands) (codes "wait")
+      ≡ Ok (at_client crtc clients (commands ++ Wait ∷ []))
   unfolding script_line later_line command_read
   wait_line crtc commands few = command_done crtc commands (codes "wait") Wait few refl refl
 
@@ -65,27 +68,36 @@ lines_of crtc d = if (d.index - 1) % 2 == crtc then flip_lines crtc d else []
 
 module _ (clients : List (List Command)) (crtc : ℕ) (lt : crtc < 2) where
   flip_spelt : (commands : List Command) (d : Drawn) (rest : List ℕ) → d.index ≤ 18446744073709551615 → length commands + 2 ≤ 4096
-      → spelt_lines (at_client crtc clients commands) (rows_of (flip_lines crtc d ++ rest)) ≡ spelt_lines (at_client crtc clients (commands ++ flip crtc d)) (rows_of rest)
+      → spelt_lines (at_client crtc clients commands) (rows_of (flip_lines crtc d ++ rest))
+      ≡ spelt_lines (at_client crtc clients (commands ++ flip crtc d)) (rows_of rest)
   flip_spelt commands d rest le few =
       let one = commands ++ commit crtc d ∷ [] in
       let fewer : length one < 4096 = omega (arith, length-append commands (commit crtc d ∷ []), few) in
-      let first = line_spelt _ (at_client crtc clients one) (flip_text crtc d) (codes "wait" ++ 10 ∷ rest) (flip_plain crtc d lt le) (flip_line clients crtc commands d lt le (omega (arith, few))) in
+      let first = line_spelt _ (at_client crtc clients one) (flip_text crtc d) (codes "wait" ++ 10 ∷ rest) (flip_plain crtc d lt le)
+      (flip_line clients crtc commands d lt le (omega (arith, few))) in
       let second = line_spelt _ (at_client crtc clients (one ++ Wait ∷ [])) (codes "wait") rest refl (wait_line clients crtc one fewer) in
       let both : one ++ Wait ∷ [] ≡ commands ++ flip crtc d = append_assoc commands (commit crtc d ∷ []) (Wait ∷ []) in
-      ap (λ (bs : List ℕ). spelt_lines (at_client crtc clients commands) (rows_of bs)) (append_assoc (flip_text crtc d) (10 ∷ codes "wait\n") rest)
+      ap (λ (bs : List ℕ). spelt_lines (at_client crtc clients commands) (rows_of bs))
+      (append_assoc (flip_text crtc d) (10 ∷ codes "wait\n") rest)
       ∙ first ∙ second
       ∙ ap (λ (cs : List Command). spelt_lines (at_client crtc clients cs) (rows_of rest)) both
 
   -- a commit that the client does, or another's
-  drawn_spelt : (mine : Bool) (commands : List Command) (d : Drawn) (rest : List ℕ) → d.index ≤ 18446744073709551615 → length commands + length (cond mine (flip crtc d) []) ≤ 4096
-      → spelt_lines (at_client crtc clients commands) (rows_of (cond mine (flip_lines crtc d) [] ++ rest)) ≡ spelt_lines (at_client crtc clients (commands ++ cond mine (flip crtc d) [])) (rows_of rest)
+  drawn_spelt : (mine : Bool) (commands : List Command) (d : Drawn) (rest : List ℕ) → d.index ≤ 18446744073709551615 → length commands
+      + length (cond mine (flip crtc d) []) ≤ 4096
+      → spelt_lines (at_client crtc clients commands) (rows_of (cond mine (flip_lines crtc d) [] ++ rest))
+      ≡ spelt_lines (at_client crtc clients (commands ++ cond mine (flip crtc d) [])) (rows_of rest)
   drawn_spelt true commands d rest le few = flip_spelt commands d rest le few
-  drawn_spelt false commands d rest le few = ap (λ (cs : List Command). spelt_lines (at_client crtc clients cs) (rows_of rest)) (sym (append-nil commands))
+  drawn_spelt false commands d rest le few = ap (λ (cs : List Command). spelt_lines (at_client crtc clients cs) (rows_of rest))
+      (sym (append-nil commands))
 
   -- all commits
-  all_spelt : (commands : List Command) (drawn : List Drawn) (rest : List ℕ) → AllByRecursion (λ d. d.index ≤ 18446744073709551615) drawn → length commands + length (flat_map (flips_of crtc) drawn) ≤ 4096
-      → spelt_lines (at_client crtc clients commands) (rows_of (flat_map (lines_of crtc) drawn ++ rest)) ≡ spelt_lines (at_client crtc clients (commands ++ flat_map (flips_of crtc) drawn)) (rows_of rest)
-  all_spelt commands [] rest le few = ap (λ (cs : List Command). spelt_lines (at_client crtc clients cs) (rows_of rest)) (sym (append-nil commands))
+  all_spelt : (commands : List Command) (drawn : List Drawn) (rest : List ℕ) → AllByRecursion (λ d. d.index ≤ 18446744073709551615) drawn
+      → length commands + length (flat_map (flips_of crtc) drawn) ≤ 4096
+      → spelt_lines (at_client crtc clients commands) (rows_of (flat_map (lines_of crtc) drawn ++ rest))
+      ≡ spelt_lines (at_client crtc clients (commands ++ flat_map (flips_of crtc) drawn)) (rows_of rest)
+  all_spelt commands [] rest le few = ap (λ (cs : List Command). spelt_lines (at_client crtc clients cs) (rows_of rest))
+      (sym (append-nil commands))
   all_spelt commands (d ∷ ds) rest le few =
       let own = flips_of crtc d in
       let later = flat_map (flips_of crtc) ds in
@@ -130,9 +142,11 @@ text_of_seed seed n = first_front ++ (flips_text 0 seed n ++ second_text seed n)
 
 -- the commits of a client, behind its first commands
 flips_spelt : (clients : List (List Command)) (crtc seed n : ℕ) (rest : List ℕ) → crtc < 2 → n ≤ 4000
-    → spelt_lines (at_client crtc clients (commands_for [] crtc)) (rows_of (flips_text crtc seed n ++ rest)) ≡ spelt_lines (at_client crtc clients (commands_for (drawn_from 1 seed n) crtc)) (rows_of rest)
+    → spelt_lines (at_client crtc clients (commands_for [] crtc)) (rows_of (flips_text crtc seed n ++ rest))
+    ≡ spelt_lines (at_client crtc clients (commands_for (drawn_from 1 seed n) crtc)) (rows_of rest)
 flips_spelt clients crtc seed n rest lt le =
-    all_spelt clients crtc lt (commands_for [] crtc) (drawn_from 1 seed n) rest (indexes_fit 1 seed n (omega (arith, le))) (omega (arith, le, few_flips crtc seed n))
+    all_spelt clients crtc lt (commands_for [] crtc) (drawn_from 1 seed n) rest (indexes_fit 1 seed n (omega (arith, le)))
+    (omega (arith, le, few_flips crtc seed n))
 
 pub generated_spelt : (seed n : ℕ) → n ≤ 4000 → Spells (text_of_seed seed n) (generated seed n)
 unfolding rows_of

@@ -1,5 +1,6 @@
 -- Hexadecimal digits that were read are written again.
-use Rattle.std.proofs.Common.{◌≡◌, ℕ, suc, ◌+◌, ◌-◌, ◌*◌, ◌/◌, ◌%◌, ◌≤◌, ◌<◌, Bool, true, false, List, [], ◌∷◌, ◌++◌, length, cond, append-nil, append_assoc, Some, refl, sym, ap, ◌∙◌, arith}
+use Rattle.std.proofs.Common.{◌≡◌, ℕ, suc, ◌+◌, ◌-◌, ◌*◌, ◌/◌, ◌%◌, ◌≤◌, ◌<◌, Bool, true, false, List, [], ◌∷◌, ◌++◌, length, cond}
+use Rattle.std.proofs.Common.{append-nil, append_assoc, Some, refl, sym, ap, ◌∙◌, arith}
 use Rattle.std.specs.Prelude.{nat_le, ◌&&◌, ◌||◌, ◌==◌, codes}
 use Rattle.std.specs.Fmt.{digits, digits_onto, digit_glyph}
 use Rattle.std.specs.List.{list_all}
@@ -137,4 +138,5 @@ bytes_spelt bytes (a ∷ []) e = absurd cc
 bytes_spelt bytes (a ∷ b ∷ more) e =
     let x = bind_some (hex_pair a b) _ bytes e in
     let xs = bind_some (hex_bytes more) _ bytes x.then in
-    rw (← some_same (x.value ∷ xs.value) bytes xs.then) (pair_in_front a b x.value xs.value more (pair_spelt a b x.value x.given) (bytes_spelt xs.value more xs.given))
+    rw (← some_same (x.value ∷ xs.value) bytes xs.then)
+    (pair_in_front a b x.value xs.value more (pair_spelt a b x.value x.given) (bytes_spelt xs.value more xs.given))

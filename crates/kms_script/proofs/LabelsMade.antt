@@ -1,5 +1,6 @@
 -- The labels that assignments make, and what names are after them.
-use Rattle.std.proofs.Common.{◌≡◌, ℕ, ◌+◌, suc, Bool, true, false, if◌then◌else◌, List, [], ◌∷◌, ◌++◌, length, cond, Option, Some, None, refl, sym, ◌∙◌, arith}
+use Rattle.std.proofs.Common.{◌≡◌, ℕ, ◌+◌, suc, Bool, true, false, if◌then◌else◌, List, [], ◌∷◌, ◌++◌, length, cond, Option, Some, None}
+use Rattle.std.proofs.Common.{refl, sym, ◌∙◌, arith}
 use Rattle.std.specs.Prelude.{◌||◌, codes, option_map, ⊤}
 use Rattle.std.specs.Cmp.Lexicographic.{nat_list_eq_equiv}
 use Rattle.std.specs.List.{list_any}
@@ -10,7 +11,8 @@ use Rattle.kms_model.specs.declared.objects.Kind.{Kind}
 use Rattle.kms_model.specs.declared.scripts.Assign.{Assign}
 use Rattle.kms_model.specs.declared.scripts.Value.{Value}
 use Rattle.kms_model.specs.declared.scripts.Value.TheVariants as value
-use Rattle.kms_model.specs.Script.CommandLines.{Name, Names, place, said, made, was_made, saying, making, assign_words, property_read, value_read, assign_read, assigns_read}
+use Rattle.kms_model.specs.Script.CommandLines.{Name, Names, place, said, made, was_made, saying, making, assign_words, property_read}
+use Rattle.kms_model.specs.Script.CommandLines.{value_read, assign_read, assigns_read}
 use Rattle.kms_model.specs.Script.Grammar.{int, known_property}
 use Rattle.kms_model.specs.Script.Words.{◌>>=◌, dec, is_label, strip}
 use Rattle.kms_model.proofs.Facts.{or-assoc}
@@ -36,7 +38,8 @@ said_keeps w v (n ∷ ns) = said_step (bytes_eq v n.word) w v n ns (said_keeps w
 made_step : (u : Bool) (w v : List ℕ) (n : Name) (ns after : List Name) → bytes_eq v n.word ≡ u
     → was_made w after ≡ (bytes_eq w v || was_made w ns)
     → was_made w (cond u (record { word = n.word; is_made = true } ∷ ns) (n ∷ after)) ≡ (bytes_eq w v || was_made w (n ∷ ns))
-made_step true w v n ns after e ih = let same : v ≡ n.word = (bytes_eq-Decides v n.word).0 e in rw same (here (bytes_eq w n.word) n.is_made (was_made w ns))
+made_step true w v n ns after e ih = let same : v ≡ n.word = (bytes_eq-Decides v n.word).0 e
+    in rw same (here (bytes_eq w n.word) n.is_made (was_made w ns))
   where
     here : (s m was : Bool) → cond s true was ≡ (s || cond s m was)
     here true m was = refl
@@ -141,7 +144,8 @@ values_agree : (names : Names) (word : List ℕ) (a b c : Option (List ℕ))
     → Agrees
     (option_map_or (λ label. if is_label label then Some (value.Named (place label names), saying label names) else None) a
     (option_map_or (λ label. if is_label label then Some (value.New (place label names), making label names) else None) b
-    (option_map_or (λ digits. option_map (λ i. (value.Crtc i, names)) (dec 255 digits)) c (option_map (λ z. (value.Num z, names)) (int word)))))
+    (option_map_or (λ digits. option_map (λ i. (value.Crtc i, names)) (dec 255 digits)) c
+    (option_map (λ z. (value.Num z, names)) (int word)))))
     names
     (option_map_or (λ label. if is_label label then Some None else None) a
     (option_map_or (λ label. if is_label label then Some (Some label) else None) b
@@ -166,9 +170,15 @@ assign_agrees : (names : Names) (word : List ℕ) → Agrees (assign_read names 
 unfolding assign_read assign_label
 assign_agrees names word = step (assign_words word)
   where
-    step : (o : Option (Kind × ℕ × List ℕ × List ℕ)) → Agrees {A = Assign} (o >>= (λ w. value_read ((property_read names w.2).1) w.3 >>= (λ v. Some (record { kind = w.0; index = w.1; prop = (property_read names w.2).0; value = v.0 }, v.1)))) names (o >>= (λ w. value_label w.3))
+    step : (o : Option (Kind × ℕ × List ℕ × List ℕ))
+        → Agrees {A = Assign} (o >>= (λ w. value_read ((property_read names w.2).1) w.3 >>=
+        (λ v. Some (record { kind = w.0; index = w.1; prop = (property_read names w.2).0; value = v.0 }, v.1)))) names
+        (o >>= (λ w. value_label w.3))
     step None = tt
-    step (Some w) = after_property names (property_read names w.2).1 (λ v. record { kind = w.0; index = w.1; prop = (property_read names w.2).0; value = v }) (value_read ((property_read names w.2).1) w.3) (value_label w.3) (property_makes names w.2) (value_agrees ((property_read names w.2).1) w.3)
+    step (Some w) = after_property names (property_read names w.2).1
+        (λ v. record { kind = w.0; index = w.1; prop = (property_read names w.2).0; value = v })
+        (value_read ((property_read names w.2).1) w.3) (value_label w.3) (property_makes names w.2)
+        (value_agrees ((property_read names w.2).1) w.3)
 
 -- Assignments in a row
 
@@ -207,7 +217,8 @@ label_holds : (names after : Names) (seen : List (List ℕ)) (label : List ℕ) 
     → Holds after (seen ++ label ∷ [])
 label_holds names after seen label makes holds = λ w. makes.was w ∙ rw (holds w) (sym (any_last w label seen))
 
-row_step : (names : Names) (seen : List (List ℕ)) (count : ℕ) (a : Assign × Names) (label : Option (List ℕ)) (read : Option (List Assign × Names)) (labels : Option (List (List ℕ))) → Makes names label a.1 → Holds names seen
+row_step : (names : Names) (seen : List (List ℕ)) (count : ℕ) (a : Assign × Names) (label : Option (List ℕ))
+    (read : Option (List Assign × Names)) (labels : Option (List (List ℕ))) → Makes names label a.1 → Holds names seen
     → ((next : List (List ℕ)) → Holds a.1 next → AllAgree read a.1 next count labels)
     → AllAgree (read >>= (λ more. Some (a.0 ∷ more.0, more.1))) names seen (count + 1) (labels >>= (λ ls. Some (label_and label ls)))
 row_step names seen count a None None None makes holds ih = tt
@@ -234,7 +245,8 @@ row_step names seen count a (Some label) (Some more) (Some ls) makes holds ih =
 first_step : (names : Names) (seen : List (List ℕ)) (ws : List (List ℕ)) (o : Option (Assign × Names)) (label : Option (Option (List ℕ)))
     → Agrees o names label → Holds names seen
     → ((after : Names) (next : List (List ℕ)) → Holds after next → AllAgree (assigns_read after ws) after next (length ws) (labels_made ws))
-    → AllAgree (o >>= (λ a. assigns_read a.1 ws >>= (λ more. Some (a.0 ∷ more.0, more.1)))) names seen (length ws + 1) (label >>= (λ l. labels_made ws >>= (λ ls. Some (label_and l ls))))
+    → AllAgree (o >>= (λ a. assigns_read a.1 ws >>= (λ more. Some (a.0 ∷ more.0, more.1)))) names seen (length ws + 1)
+    (label >>= (λ l. labels_made ws >>= (λ ls. Some (label_and l ls))))
 first_step names seen ws None None agrees holds ih = tt
 first_step names seen ws None (Some l) agrees holds ih = absurd agrees
 first_step names seen ws (Some a) None agrees holds ih = absurd agrees
@@ -244,7 +256,9 @@ first_step names seen ws (Some a) (Some l) agrees holds ih =
 pub assigns_agree : (ws : List (List ℕ)) (names : Names) (seen : List (List ℕ)) → Holds names seen
     → AllAgree (assigns_read names ws) names seen (length ws) (labels_made ws)
 assigns_agree [] names seen holds = (or_none names.is_twice, refl)
-assigns_agree (w ∷ ws) names seen holds = rw (add_one (length ws)) (first_step names seen ws (assign_read names w) (assign_label w) (assign_agrees names w) holds (λ after next h. assigns_agree ws after next h))
+assigns_agree (w ∷ ws) names seen holds = rw (add_one (length ws))
+    (first_step names seen ws (assign_read names w) (assign_label w) (assign_agrees names w) holds
+    (λ after next h. assigns_agree ws after next h))
   where
     add_one : (n : ℕ) → suc n ≡ n + 1
     add_one n = omega arith

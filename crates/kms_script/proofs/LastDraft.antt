@@ -7,7 +7,9 @@ use Rattle.kms_model.specs.declared.scripts.Why.TheVariants.{Form, Label, Limit}
 use Rattle.kms_model.specs.Script.CommandLines.{command_read, is_over}
 use Rattle.kms_model.specs.Script.InputLines.{Row}
 use Rattle.kms_model.specs.Script.Spelling.{spelt_line, spelt_lines}
-use Rattle.kms_model.specs.Script.WholeInput.{Draft, blank_draft, clients_in, client_line, command_line, conn_at, conn_line, crtcs_at, crtcs_line, first_line, is_nil, later_line, plane_fields, plane_line, script_line, version_read}
+use Rattle.kms_model.specs.Script.WholeInput.{Draft, blank_draft, clients_in, client_line, command_line, conn_at, conn_line, crtcs_at}
+use Rattle.kms_model.specs.Script.WholeInput.{crtcs_line, first_line, is_nil, later_line, plane_fields, plane_line, script_line}
+use Rattle.kms_model.specs.Script.WholeInput.{version_read}
 use Rattle.kms_model.specs.Script.Words.{end_at, from, until}
 use Rattle.kms_script.proofs.Accepted.{accepted, either_ok, form_ok, if_ok, ok_same, second_off, unless_ok}
 use Rattle.kms_script.proofs.DraftGrows.{IsInOrder, with_client, with_version}

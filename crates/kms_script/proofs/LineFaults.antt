@@ -1,5 +1,6 @@
 -- The faults of a command's line.
-use Rattle.std.proofs.Common.{◌≡◌, ℕ, ◌+◌, ◌≤◌, inl, inr, Bool, true, false, List, length, cond, Option, Some, None, Ok, Err, refl, sym, ap, ◌∙◌, arith}
+use Rattle.std.proofs.Common.{◌≡◌, ℕ, ◌+◌, ◌≤◌, inl, inr, Bool, true, false, List, length, cond, Option, Some, None, Ok, Err, refl, sym, ap}
+use Rattle.std.proofs.Common.{◌∙◌, arith}
 use Rattle.std.specs.Prelude.{◌&&◌, codes, nat_lt, option_map, Result}
 use Rattle.std.specs.Str.{bytes_eq}
 use Rattle.std.proofs.lemmas.Bool.{false≢true}
@@ -8,7 +9,9 @@ use Rattle.kms_model.specs.declared.scripts.Command.{Command}
 use Rattle.kms_model.specs.declared.scripts.Command.TheVariants as command
 use Rattle.kms_model.specs.declared.scripts.Why.{Why}
 use Rattle.kms_model.specs.declared.scripts.Why.TheVariants.{Bytes, Cut, Form, Label, Limit}
-use Rattle.kms_model.specs.Script.CommandLines.{Names, addfb_read, atomic_read, blob_read, buffer_read, command_read, is_over, label_alone, label_read, line_read, making_read, mode_read, naming_read, or_form, thing_read, unless, unmade, words_in}
+use Rattle.kms_model.specs.Script.CommandLines.{Names, addfb_read, atomic_read, blob_read, buffer_read, command_read, is_over, label_alone}
+use Rattle.kms_model.specs.Script.CommandLines.{label_read, line_read, making_read, mode_read, naming_read, or_form, thing_read, unless}
+use Rattle.kms_model.specs.Script.CommandLines.{unmade, words_in}
 use Rattle.kms_model.specs.Script.Words.{end_at, from, label_at, until}
 use Rattle.kms_model.specs.Script.WellFormed.{IsFitCommand}
 use Rattle.kms_words.specs.Fitting.{HasFilled}
@@ -88,7 +91,8 @@ wait_few names bytes r e = let m = map_some _ (end_at bytes) r e in rw (← m.ma
 atomic_few : (names : Names) (bytes : List ℕ) (r : Command × Names) → has_many bytes ≡ false → atomic_read names bytes ≡ Some r → IsFew r
 atomic_few names bytes r few e =
     let p = request_parts names bytes r e in
-    let count : length p.sets.0 ≡ blank_count p.user.1 = assigns_count p.words names p.sets p.given ∙ words_blanks p.user.1 p.words p.rest in
+    let count : length p.sets.0 ≡ blank_count p.user.1 = assigns_count p.words names p.sets p.given ∙ words_blanks p.user.1 p.words p.rest
+    in
     rw (← p.makes) (test (length p.sets.0) (within (length p.sets.0) (request_blanks bytes p.flags p.user p.first p.second) count))
   where
     below : (n : ℕ) → nat_lt 258 n ≡ false → n ≤ 258
@@ -107,9 +111,12 @@ unfolding command_read
 few_assigns names text r few e = step (bytes_eq (until 32 text) (codes "atomic")) few e
   where
     step : (t : Bool) → (t && has_many (from 32 text)) ≡ false
-        → cond t (atomic_read names (from 32 text)) (cond (bytes_eq (until 32 text) (codes "wait")) (option_map (λ u. (command.Wait, names)) (end_at (from 32 text))) (label_read names (until 32 text) (from 32 text))) ≡ Some r → IsFew r
+        → cond t (atomic_read names (from 32 text)) (cond (bytes_eq (until 32 text) (codes "wait"))
+        (option_map (λ u. (command.Wait, names)) (end_at (from 32 text))) (label_read names (until 32 text) (from 32 text))) ≡ Some r
+        → IsFew r
     step true few e = atomic_few names (from 32 text) r few e
-    step false few e = by_word (bytes_eq (until 32 text) (codes "wait")) r _ _ (wait_few names (from 32 text) r) (label_few names (until 32 text) (from 32 text) r) e
+    step false few e = by_word (bytes_eq (until 32 text) (codes "wait")) r _ _ (wait_few names (from 32 text) r)
+        (label_few names (until 32 text) (from 32 text) r) e
 
 fits : (c : Command) → HasFilled c → is_over c ≡ false → IsFitCommand c
 fits (command.Buffer label width height format pattern) filled few = filled
@@ -165,7 +172,8 @@ read_step None c after e = absurd (none e)
     none e = cc
 read_step (Some r) c after e = step r.1.is_twice (is_over r.0) e
   where
-    step : (twice over : Bool) → unless twice Label (unless over Limit (well r)) ≡ well (c, after) → unless twice Label (unless over Limit (with_words r)) ≡ with_words (c, after)
+    step : (twice over : Bool) → unless twice Label (unless over Limit (well r)) ≡ well (c, after)
+        → unless twice Label (unless over Limit (with_words r)) ≡ with_words (c, after)
     step true over e = absurd (twice_is e)
       where
         twice_is : Err Label ≡ well (c, after) → ⊥
@@ -199,7 +207,8 @@ fault_step : (o : Option (Command × Names)) (why : Why) → checked o ≡ Err w
 fault_step None why e = let is : Form ≡ why = cc in record { same = ap Err is; of_line = sym (ap is_of_line is) }
 fault_step (Some r) why e = step r.1.is_twice (is_over r.0) e
   where
-    step : (twice over : Bool) → unless twice Label (unless over Limit (Ok r)) ≡ Err why → FaultAlone (unless twice Label (unless over Limit (with_words r))) why
+    step : (twice over : Bool) → unless twice Label (unless over Limit (Ok r)) ≡ Err why
+        → FaultAlone (unless twice Label (unless over Limit (with_words r))) why
     step true over e = let is : Label ≡ why = cc in record { same = ap Err is; of_line = sym (ap is_of_line is) }
     step false true e = let is : Limit ≡ why = cc in record { same = ap Err is; of_line = sym (ap is_of_line is) }
     step false false e = absurd (none e)

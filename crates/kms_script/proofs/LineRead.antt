@@ -8,7 +8,8 @@ use Rattle.kms_model.specs.declared.scripts.Command.TheVariants as command
 use Rattle.kms_model.specs.Report.TextLines.{line}
 use Rattle.kms_model.specs.Script.CommandLines.{is_over}
 use Rattle.kms_model.specs.Script.Grammar.{is_printable}
-use Rattle.kms_model.specs.Script.Spelling.{assign_word, blob_word, command_words, format_word, hex_word, name_word, pattern_words, spelt_mode}
+use Rattle.kms_model.specs.Script.Spelling.{assign_word, blob_word, command_words, format_word, hex_word, name_word, pattern_words}
+use Rattle.kms_model.specs.Script.Spelling.{spelt_mode}
 use Rattle.kms_model.specs.Script.WellFormed.{is_command_in}
 use Rattle.kms_model.specs.Script.Words.{until}
 use Rattle.kms_script.specs.ReadAnew.{IsLineOf}

@@ -1,5 +1,6 @@
 -- A line of a device that was read is written as it stood.
-use Rattle.std.proofs.Common.{◌≡◌, ℕ, ◌≤◌, Bool, true, false, List, [], ◌∷◌, ◌++◌, append_assoc, cond, Some, None, refl, sym, ap, ◌∙◌, arith}
+use Rattle.std.proofs.Common.{◌≡◌, ℕ, ◌≤◌, Bool, true, false, List, [], ◌∷◌, ◌++◌, append_assoc, cond, Some, None, refl, sym, ap, ◌∙◌}
+use Rattle.std.proofs.Common.{arith}
 use Rattle.std.specs.Prelude.{codes, ◌==◌}
 use Rattle.std.specs.Fmt.{decimal}
 use Rattle.std.specs.Str.{bytes_eq}
@@ -22,7 +23,8 @@ pub line_spelt : (key : List ℕ) (words : List (List ℕ)) (text : List ℕ) �
 line_spelt key words text is fields =
     let first : until 32 text ≡ key = (bytes_eq-Decides (until 32 text) key).0 is in
     let all : key ++ fields_to words [] ≡ text = rw (← first, fields) (until_from 32 text) in
-    line_fields key words ∙ ap (λ (bs : List ℕ). key ++ bs) (sym (fields_end words [] (10 ∷ []))) ∙ sym (append_assoc key (fields_to words []) (10 ∷ [])) ∙ ap (λ (bs : List ℕ). bs ++ 10 ∷ []) all
+    line_fields key words ∙ ap (λ (bs : List ℕ). key ++ bs) (sym (fields_end words [] (10 ∷ []))) ∙ sym
+    (append_assoc key (fields_to words []) (10 ∷ [])) ∙ ap (λ (bs : List ℕ). bs ++ 10 ∷ []) all
 
 -- the last field
 last_field : (bytes : List ℕ) (f : List ℕ × List ℕ) (u : Unit {0}) → field_at bytes ≡ Some f → end_at f.1 ≡ Some u
@@ -51,7 +53,8 @@ count_spelt bytes n e =
     let same : number.value.0 ≡ n = not_zero (number.value.0 == 0) number.value.0 n done.then in
     let low : read.value ≤ 4 = dec_at_most 4 read.value field.value.0 read.given in
     let spells : fields_to (decimal number.value.0 ∷ []) [] ≡ bytes =
-    then_fields (decimal number.value.0) [] [] number.value.1 bytes (dec_at_spelt 4 bytes number.value (omega arith) number.given) (end_spelt number.value.1 done.value done.given) in
+    then_fields (decimal number.value.0) [] [] number.value.1 bytes (dec_at_spelt 4 bytes number.value (omega arith) number.given)
+    (end_spelt number.value.1 done.value done.given) in
     record {
       few = omega (arith, low, ap (λ (p : ℕ × List ℕ). p.0) pair, same);
       spells = ap (λ k. fields_to (decimal k ∷ []) []) (sym same) ∙ spells;
@@ -93,7 +96,12 @@ plane_spelt crtcs bytes p few e =
     (then_fields l.value.0 (f.value.0 ∷ []) [] l.value.1 t.value.1 (field_spelt t.value.1 l.value l.given)
     (last_field l.value.1 f.value done.value f.given done.given)) in
     let given : PlaneInfo = record { kind = kind.value; crtcs = mask.value; formats = formats.value } in
-    rw (← some_same given p formats.then, type_spelt t.value.0 kind.value kind.given, crtcs_spelt crtcs mask.value l.value.0 few mask.given, formats_spelt formats.value f.value.0 formats.given) fields
+    rw (
+      ← some_same given p formats.then,
+      type_spelt t.value.0 kind.value kind.given,
+      crtcs_spelt crtcs mask.value l.value.0 few mask.given,
+      formats_spelt formats.value f.value.0 formats.given,
+    ) fields
 
 -- the field of a connector that was read
 pub conn_spelt : (crtcs : ℕ) (bytes : List ℕ) (mask : ℕ) → crtcs ≤ 4 → conn_at crtcs bytes ≡ Some mask

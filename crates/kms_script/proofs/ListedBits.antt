@@ -1,5 +1,6 @@
 -- The words of a list that was read are those of the bits of its mask, in order.
-use Rattle.std.proofs.Common.{◌≡◌, ℕ, zero, suc, ◌+◌, ◌*◌, ◌^◌, ◌<◌, ◌≤◌, inl, inr, Bool, true, false, List, [], ◌∷◌, length, map, cond, Option, Some, None, refl, ap, ◌∙◌, arith}
+use Rattle.std.proofs.Common.{◌≡◌, ℕ, zero, suc, ◌+◌, ◌*◌, ◌^◌, ◌<◌, ◌≤◌, inl, inr, Bool, true, false, List, [], ◌∷◌, length, map, cond}
+use Rattle.std.proofs.Common.{Option, Some, None, refl, ap, ◌∙◌, arith}
 use Rattle.std.specs.Prelude.{nat_le}
 use Rattle.std.proofs.lemmas.Bool.{leb-true, le-leb}
 use Rattle.std.proofs.Math.Nat.{eq-or-lt_of_le}
@@ -68,7 +69,15 @@ begun bit_of low mask w ws e =
     let first = bind_some (bit_of w) _ mask e in
     let rest = bind_some (cond (nat_le low first.value) (rising bit_of (first.value + 1) ws) None) _ mask first.then in
     let high = if_some (nat_le low first.value) (rising bit_of (first.value + 1) ws) rest.value rest.given in
-    record { bit = first.value; is = first.given; high = leb-true low first.value high.0; more = rest.value; rest = high.1; whole = some_same _ mask rest.then }
+    record {
+      bit = first.value;
+      is = first.given;
+      high = leb-true low first.value high.0;
+      more = rest.value;
+      rest = high.1;
+      whole =
+          some_same _ mask rest.then;
+    }
 
 -- the same words, from a later bit on
 later : (bit_of : List ℕ → Option ℕ) (low next mask : ℕ) (w : List ℕ) (ws : List (List ℕ)) → (b : Begun bit_of low mask w ws) → next ≤ b.bit
@@ -80,13 +89,17 @@ pub turned : (bit_of : List ℕ → Option ℕ) (word_of : ℕ → List ℕ) (mo
     → (count low mask : ℕ) (words : List (List ℕ)) → most ≤ low + count → rising bit_of low words ≡ Some mask
     → AreBits word_of low count mask words
 turned bit_of word_of most spelt zero low mask [] le e = record { bits = []; many = refl; makes = some_same 0 mask e; spells = refl }
-turned bit_of word_of most spelt zero low mask (w ∷ ws) le e = let b = begun bit_of low mask w ws e in absurd (omega (arith, b.high, (spelt w b.bit b.is).0))
+turned bit_of word_of most spelt zero low mask (w ∷ ws) le e = let b = begun bit_of low mask w ws e
+    in absurd (omega (arith, b.high, (spelt w b.bit b.is).0))
 turned bit_of word_of most spelt (suc count) low mask [] le e =
     skipped word_of low count mask [] (turned bit_of word_of most spelt count (low + 1) mask [] (omega arith) e)
 turned bit_of word_of most spelt (suc count) low mask (w ∷ ws) le e =
     let b = begun bit_of low mask w ws e in
     elim (eq-or-lt_of_le b.high) [
-      | inl same ↦ taken word_of low count b.more mask w ws (ap word_of same ∙ (spelt w b.bit b.is).1) (ap (λ k. 2 ^ k + b.more) same ∙ b.whole)
+      | inl same ↦ taken word_of low count b.more mask w ws (ap word_of same ∙ (spelt w b.bit b.is).1)
+          (ap (λ k. 2 ^ k + b.more) same ∙ b.whole)
           (turned bit_of word_of most spelt count (low + 1) b.more ws (omega arith) (ap (λ k. rising bit_of (k + 1) ws) same ∙ b.rest))
-      | inr less ↦ skipped word_of low count mask (w ∷ ws) (turned bit_of word_of most spelt count (low + 1) mask (w ∷ ws) (omega arith) (later bit_of low (low + 1) mask w ws b (omega arith)))
+      | inr less ↦ skipped word_of low count mask (w ∷ ws)
+          (turned bit_of word_of most spelt count (low + 1) mask (w ∷ ws) (omega arith)
+          (later bit_of low (low + 1) mask w ws b (omega arith)))
     ]

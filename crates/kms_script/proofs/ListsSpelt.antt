@@ -48,12 +48,14 @@ has_bits false false false false = record { first = refl; second = refl; third =
 -- the list of a mask is that of the bits which make it up
 four_listed : (word_of : ℕ → List ℕ) (a b c d : Bool) (mask : ℕ) → mask_of 1 (four a b c d) ≡ mask
     → list_word word_of 4 mask ≡ join_with_byte 44 (map word_of (set_bits 0 (four a b c d)))
-four_listed word_of a b c d mask e = let h : HasBits mask a b c d = rw (← e) (has_bits a b c d) in rw (h.first, h.second, h.third, h.fourth) refl
+four_listed word_of a b c d mask e = let h : HasBits mask a b c d = rw (← e) (has_bits a b c d)
+    in rw (h.first, h.second, h.third, h.fourth) refl
 
 -- the same of three bits
 three_listed : (word_of : ℕ → List ℕ) (a b c : Bool) (mask : ℕ) → mask_of 1 (a ∷ b ∷ c ∷ []) ≡ mask
     → list_word word_of 3 mask ≡ join_with_byte 44 (map word_of (set_bits 0 (a ∷ b ∷ c ∷ [])))
-three_listed word_of a b c mask e = let h : HasBits mask a b c false = rw (← e) (has_bits a b c false) in rw (h.first, h.second, h.third) refl
+three_listed word_of a b c mask e = let h : HasBits mask a b c false = rw (← e) (has_bits a b c false)
+    in rw (h.first, h.second, h.third) refl
 
 -- the same of any four bits
 four_bits : (word_of : ℕ → List ℕ) (bits : List Bool) (mask : ℕ) → length bits ≡ 4 → mask_of 1 bits ≡ mask
@@ -69,13 +71,15 @@ three_bits word_of bits mask many e = absurd (omega arith)
 
 -- an index of at most four CRTCs
 index_spelt : (crtcs : ℕ) → crtcs ≤ 4 → Spelt (dec (crtcs - 1)) decimal 4
-index_spelt crtcs few w bit e = let le : bit ≤ crtcs - 1 = dec_at_most (crtcs - 1) bit w e in (omega arith, dec_spelt (crtcs - 1) bit w (omega arith) e)
+index_spelt crtcs few w bit e = let le : bit ≤ crtcs - 1 = dec_at_most (crtcs - 1) bit w e
+    in (omega arith, dec_spelt (crtcs - 1) bit w (omega arith) e)
 
 -- a list of CRTC indices that was read is written as it stood
 pub crtcs_spelt : (crtcs mask : ℕ) (word : List ℕ) → crtcs ≤ 4 → crtc_list crtcs word ≡ Some mask → crtcs_word mask ≡ word
 unfolding crtc_list
 crtcs_spelt crtcs mask word few e =
-    let b : AreBits decimal 0 4 mask (parted 44 word) = turned (dec (crtcs - 1)) decimal 4 (index_spelt crtcs few) 4 0 mask (parted 44 word) (omega arith) e in
+    let b : AreBits decimal 0 4 mask (parted 44 word) = turned (dec (crtcs - 1)) decimal 4 (index_spelt crtcs few) 4 0 mask (parted 44 word)
+    (omega arith) e in
     four_bits decimal b.bits mask b.many b.makes ∙ ap (join_with_byte 44) b.spells ∙ join_with_byte-slice_split 44 word
 
 -- the word of the format of a bit
@@ -99,5 +103,6 @@ format_bit_spelt w bit e =
 pub formats_spelt : (mask : ℕ) (word : List ℕ) → format_list word ≡ Some mask → formats_word mask ≡ word
 unfolding format_list
 formats_spelt mask word e =
-    let b : AreBits format_bit_word 0 3 mask (parted 44 word) = turned (λ w. option_map format_bit (format_named w)) format_bit_word 3 format_bit_spelt 3 0 mask (parted 44 word) (omega arith) e in
+    let b : AreBits format_bit_word 0 3 mask (parted 44 word) = turned (λ w. option_map format_bit (format_named w)) format_bit_word 3
+    format_bit_spelt 3 0 mask (parted 44 word) (omega arith) e in
     three_bits format_bit_word b.bits mask b.many b.makes ∙ ap (join_with_byte 44) b.spells ∙ join_with_byte-slice_split 44 word

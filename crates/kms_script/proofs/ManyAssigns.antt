@@ -1,5 +1,6 @@
 -- The fault of an atomic line with more assignments than a request may have, by its labels.
-use Rattle.std.proofs.Common.{◌≡◌, ℕ, ◌+◌, ◌<◌, ◌≤◌, Bool, true, false, not, List, [], ◌∷◌, ◌++◌, length, map, cond, append-nil, append_assoc, Option, Some, None, Err, refl, sym, ap, subst, ◌∙◌, arith}
+use Rattle.std.proofs.Common.{◌≡◌, ℕ, ◌+◌, ◌<◌, ◌≤◌, Bool, true, false, not, List, [], ◌∷◌, ◌++◌, length, map, cond, append-nil}
+use Rattle.std.proofs.Common.{append_assoc, Option, Some, None, Err, refl, sym, ap, subst, ◌∙◌, arith}
 use Rattle.std.specs.Prelude.{codes, if◌then◌else◌, nat_lt, option_map, Result, ⊤}
 use Rattle.std.specs.Bool.{Decides, nat_eq}
 use Rattle.std.specs.List.{AllByRecursion, IsDistinct, list_any}
@@ -17,7 +18,8 @@ use Rattle.kms_model.specs.Script.Grammar.{field_words, hex_at, int}
 use Rattle.kms_model.specs.Script.Words.{◌>>=◌, dec, dec_at, field_at, is_label, strip}
 use Rattle.kms_script.specs.Lines.{checked}
 use Rattle.kms_words.specs.Packed.{made_words, packed_all, packed_alone}
-use Rattle.kms_script.specs.Overlong.{AddsLabels, assign_label, blank_count, has_many, label_and, label_word, labels_at, labels_made, value_label}
+use Rattle.kms_script.specs.Overlong.{AddsLabels, assign_label, blank_count, has_many, label_and, label_word, labels_at, labels_made}
+use Rattle.kms_script.specs.Overlong.{value_label}
 use Rattle.kms_words.proofs.Fields.{first_word, no_word, pair}
 use Rattle.kms_script.proofs.Inverted.{bind_some, some_same}
 use Rattle.kms_script.proofs.LabelsMade.{AllAgree, assigns_agree, twice_in}
@@ -92,11 +94,13 @@ one_label_more fields rest old now word after label next so f is added =
           ∙ (ap (λ (w : List ℕ). now ++ packed_alone w) l.same
           ∙ (ap (λ (ns : List ℕ). ns ++ packed_alone (label_word l.found)) so.added
           ∙ (append_assoc old (packed_all so.done) (packed_alone (label_word l.found))
-          ∙ ap (λ (ns : List ℕ). old ++ ns) (ap (λ (ns : List ℕ). packed_all so.done ++ ns) (sym (one_number l.found)) ∙ sym (numbers_append so.done (label_and l.found []))))));
+          ∙ ap (λ (ns : List ℕ). old ++ ns) (ap (λ (ns : List ℕ). packed_all so.done ++ ns) (sym (one_number l.found)) ∙ sym
+          (numbers_append so.done (label_and l.found []))))));
       read = so.read ∙ rw (next_label rest word after l.found f l.given) (step l.found (labels_at after));
     }
   where
-    step : (l : Option (List ℕ)) (o : Option (List (List ℕ))) → option_map (λ ls. so.done ++ ls) (option_map (label_and l) o) ≡ option_map (λ ls. (so.done ++ label_and l []) ++ ls) o
+    step : (l : Option (List ℕ)) (o : Option (List (List ℕ))) → option_map (λ ls. so.done ++ ls) (option_map (label_and l) o)
+        ≡ option_map (λ ls. (so.done ++ label_and l []) ++ ls) o
     step l None = refl
     step l (Some ls) = ap Some (label_more so.done ls l)
 
@@ -115,7 +119,8 @@ none_made : (x : List ℕ) (ns : List Name) → AllByRecursion (λ v. bytes_eq x
 none_made x [] all = refl
 none_made x (n ∷ ns) all = step n.is_made n.word all.0 (none_made x ns all.1)
   where
-    step : (m : Bool) (w : List ℕ) → bytes_eq x w ≡ false → list_any (bytes_eq x) (made_words ns) ≡ false → list_any (bytes_eq x) (made_words (record { word = w; is_made = m } ∷ ns)) ≡ false
+    step : (m : Bool) (w : List ℕ) → bytes_eq x w ≡ false → list_any (bytes_eq x) (made_words ns) ≡ false
+        → list_any (bytes_eq x) (made_words (record { word = w; is_made = m } ∷ ns)) ≡ false
     step true w apart ih = rw (apart, ih) refl
     step false w apart ih = ih
 
@@ -138,7 +143,8 @@ made_all : (x : List ℕ) (ns : List Name) → AllByRecursion (λ v. bytes_eq x 
 made_all x [] all = tt
 made_all x (n ∷ ns) all = step n.is_made n.word all.0 (made_all x ns all.1)
   where
-    step : (m : Bool) (w : List ℕ) → bytes_eq x w ≡ false → AllByRecursion (λ v. bytes_eq x v ≡ false) (made_words ns) → AllByRecursion (λ v. bytes_eq x v ≡ false) (made_words (record { word = w; is_made = m } ∷ ns))
+    step : (m : Bool) (w : List ℕ) → bytes_eq x w ≡ false → AllByRecursion (λ v. bytes_eq x v ≡ false) (made_words ns)
+        → AllByRecursion (λ v. bytes_eq x v ≡ false) (made_words (record { word = w; is_made = m } ∷ ns))
     step true w apart ih = (apart, ih)
     step false w apart ih = ih
 
@@ -147,7 +153,8 @@ unfolding IsDistinct
 made_distinct [] d = tt
 made_distinct (n ∷ ns) d = step n.is_made n.word d.0 (made_distinct ns d.1)
   where
-    step : (m : Bool) (w : List ℕ) → AllByRecursion (λ v. bytes_eq w v ≡ false) (map (λ n. n.word) ns) → IsDistinct bytes_eq (made_words ns) → IsDistinct bytes_eq (made_words (record { word = w; is_made = m } ∷ ns))
+    step : (m : Bool) (w : List ℕ) → AllByRecursion (λ v. bytes_eq w v ≡ false) (map (λ n. n.word) ns) → IsDistinct bytes_eq (made_words ns)
+        → IsDistinct bytes_eq (made_words (record { word = w; is_made = m } ∷ ns))
     step true w all ih = (made_all w ns all, ih)
     step false w all ih = ih
 
@@ -186,7 +193,8 @@ value_labelled word = values_labelled word (strip (codes "@") word) (strip (code
 
 assign_labelled : (word : List ℕ) (l : Option (List ℕ)) → assign_label word ≡ Some l → IsLabelled (Some l)
 unfolding assign_label
-assign_labelled word l e = let w = bind_some (assign_words word) (λ w. value_label w.3) l e in subst (λ (o : Option (Option (List ℕ))). IsLabelled o) w.then (value_labelled w.value.3)
+assign_labelled word l e = let w = bind_some (assign_words word) (λ w. value_label w.3) l e
+    in subst (λ (o : Option (Option (List ℕ))). IsLabelled o) w.then (value_labelled w.value.3)
 
 all_labelled : (ws : List (List ℕ)) (ls : List (List ℕ)) → labels_made ws ≡ Some ls → AllByRecursion (λ l. is_label l ≡ true) ls
 all_labelled [] ls e = rw (← some_same [] ls e) tt
@@ -195,7 +203,8 @@ all_labelled (w ∷ ws) ls e =
     let more = bind_some (labels_made ws) _ ls l.then in
     rw (← some_same _ ls more.then) (step more.value l.value (assign_labelled w l.value l.given) (all_labelled ws more.value more.given))
   where
-    step : (ms : List (List ℕ)) (l : Option (List ℕ)) → IsLabelled (Some l) → AllByRecursion (λ l. is_label l ≡ true) ms → AllByRecursion (λ l. is_label l ≡ true) (label_and l ms)
+    step : (ms : List (List ℕ)) (l : Option (List ℕ)) → IsLabelled (Some l) → AllByRecursion (λ l. is_label l ≡ true) ms
+        → AllByRecursion (λ l. is_label l ≡ true) (label_and l ms)
     step ms None is all = all
     step ms (Some label) is all = (is, all)
 
@@ -212,7 +221,9 @@ no_user names bytes flags f e = rw (f, e) refl
 
 no_assigns : (names : Names) (ws : List (List ℕ)) → IsDistinct bytes_eq (words_in names) → labels_made ws ≡ None
     → assigns_read names ws ≡ None
-no_assigns names ws d e = step (assigns_read names ws) (subst (λ (o : Option (List (List ℕ))). AllAgree (assigns_read names ws) names (made_words names.all) (length ws) o) e (assigns_agree ws names (made_words names.all) (holds_made names.all d)))
+no_assigns names ws d e = step (assigns_read names ws)
+    (subst (λ (o : Option (List (List ℕ))). AllAgree (assigns_read names ws) names (made_words names.all) (length ws) o) e
+    (assigns_agree ws names (made_words names.all) (holds_made names.all d)))
   where
     step : (o : Option (List Assign × Names)) → AllAgree o names (made_words names.all) (length ws) None → o ≡ None
     step None h = refl
@@ -228,7 +239,8 @@ no_labels names bytes flags user d f u e = rw (f, u) (step (field_words user.1) 
     form o = checked o
 
     step : (o : Option (List (List ℕ))) → field_words user.1 ≡ o → (o >>= labels_made) ≡ None
-        → checked (o >>= (λ words. assigns_read names words >>= (λ sets. Some (command.Atomic (record { flags = flags.0; user_data = user.0; assigns = sets.0 }), sets.1)))) ≡ Err Form
+        → checked (o >>= (λ words. assigns_read names words >>=
+        (λ sets. Some (command.Atomic (record { flags = flags.0; user_data = user.0; assigns = sets.0 }), sets.1)))) ≡ Err Form
     step None is e = refl
     step (Some ws) is e = rw (no_assigns names ws d e) refl
 
@@ -249,9 +261,12 @@ pub many_fault : (names : Names) (bytes : List ℕ) (flags user : ℕ × List �
 unfolding atomic_read
 many_fault names bytes flags user labels once d many f u e =
     let ws = bind_some (field_words user.1) labels_made labels e in
-    let agree : AllAgree (assigns_read names ws.value) names (made_words names.all) (length ws.value) (Some labels) = subst (λ (o : Option (List (List ℕ))). AllAgree (assigns_read names ws.value) names (made_words names.all) (length ws.value) o) ws.then (assigns_agree ws.value names (made_words names.all) (holds_made names.all d)) in
+    let agree : AllAgree (assigns_read names ws.value) names (made_words names.all) (length ws.value) (Some labels) = subst
+    (λ (o : Option (List (List ℕ))). AllAgree (assigns_read names ws.value) names (made_words names.all) (length ws.value) o) ws.then
+    (assigns_agree ws.value names (made_words names.all) (holds_made names.all d)) in
     let count : length ws.value ≡ blank_count user.1 = words_blanks user.1 ws.value ws.given in
-    rw (f, u, ws.given) (step (assigns_read names ws.value) (length ws.value) (over (length ws.value) (request_blanks bytes flags user f u) count) agree)
+    rw (f, u, ws.given) (step (assigns_read names ws.value) (length ws.value)
+    (over (length ws.value) (request_blanks bytes flags user f u) count) agree)
   where
     above : (n : ℕ) → nat_lt 258 n ≡ true → 258 < n
     above n lt = grind (arith, nat_tests)
@@ -263,10 +278,13 @@ many_fault names bytes flags user labels once d many f u e =
     test n m same lt = grind (arith, nat_tests)
 
     step : (o : Option (List Assign × Names)) (n : ℕ) → 256 < n → AllAgree o names (made_words names.all) n (Some labels)
-        → checked (o >>= (λ sets. Some (command.Atomic (record { flags = flags.0; user_data = user.0; assigns = sets.0 }), sets.1))) ≡ Err (why_of (twice_in (made_words names.all) labels))
+        → checked (o >>= (λ sets. Some (command.Atomic (record { flags = flags.0; user_data = user.0; assigns = sets.0 }), sets.1)))
+        ≡ Err (why_of (twice_in (made_words names.all) labels))
     step None n lt h = absurd h
     step (Some sets) n lt h =
-        over_step (twice_in (made_words names.all) labels) true (command.Atomic (record { flags = flags.0; user_data = user.0; assigns = sets.0 })) sets.1 (h.0 ∙ rw once refl) (test n (length sets.0) h.1 lt)
+        over_step (twice_in (made_words names.all) labels) true
+        (command.Atomic (record { flags = flags.0; user_data = user.0; assigns = sets.0 })) sets.1 (h.0 ∙ rw once refl)
+        (test n (length sets.0) h.1 lt)
 
 -- the test of the numbers tells which
 decided : (r t : Bool) (numbers : List ℕ) → Decides r (IsDistinct nat_eq numbers) → OnceOrTwice t numbers → t ≡ not r
@@ -286,5 +304,8 @@ pub many_decided : (names : Names) (bytes numbers : List ℕ) (flags user : ℕ 
 many_decided names bytes numbers flags user None r once d many f u e added decides = absurd added
 many_decided names bytes numbers flags user (Some labels) r once d many f u e added decides =
     let ws = bind_some (field_words user.1) labels_made labels e in
-    let both : OnceOrTwice (twice_in (made_words names.all) labels) numbers = subst (λ (ns : List ℕ). OnceOrTwice (twice_in (made_words names.all) labels) ns) (sym added) (once_or_twice labels (made_words names.all) (made_distinct names.all d) (all_labelled ws.value labels ws.then)) in
-    many_fault names bytes flags user labels once d many f u e ∙ ap (λ (b : Bool). Err (why_of b)) (decided r (twice_in (made_words names.all) labels) numbers decides both)
+    let both : OnceOrTwice (twice_in (made_words names.all) labels) numbers = subst
+    (λ (ns : List ℕ). OnceOrTwice (twice_in (made_words names.all) labels) ns) (sym added)
+    (once_or_twice labels (made_words names.all) (made_distinct names.all d) (all_labelled ws.value labels ws.then)) in
+    many_fault names bytes flags user labels once d many f u e ∙ ap (λ (b : Bool). Err (why_of b))
+    (decided r (twice_in (made_words names.all) labels) numbers decides both)

@@ -60,7 +60,8 @@ parted_step true b bs e ih = rw (blanks_step b bs, e) (more (length (parted 32 b
     more n m same = omega (arith, same)
 parted_step false b bs e ih =
     let first : length (until 32 bs ∷ later_parts 32 (from 32 bs)) ≡ 1 + blank_count bs = rw first_part at ih in
-    rw (blanks_step b bs, e, first_part 32 bs) (onto_length b (until 32 bs) (later_parts 32 (from 32 bs)) ∙ (first ∙ none_more (blank_count bs)))
+    rw (blanks_step b bs, e, first_part 32 bs) (onto_length b (until 32 bs) (later_parts 32 (from 32 bs)) ∙
+    (first ∙ none_more (blank_count bs)))
   where
     none_more : (n : ℕ) → 1 + n ≡ 1 + (0 + n)
     none_more n = omega arith

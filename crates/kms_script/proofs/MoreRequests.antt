@@ -1,5 +1,6 @@
 -- A script with requests more behind the commands of its last client, whose labels are all among its names, is a script.
-use Rattle.std.proofs.Common.{◌≡◌, ℕ, zero, suc, ◌+◌, ◌≤◌, ◌<◌, inl, inr, Bool, true, false, cond, List, [], ◌∷◌, ◌++◌, codes, length, length-append, map, append-nil, append_assoc, Some, refl, sym, ap, subst, ◌∙◌, arith, one-add, if◌then◌else◌}
+use Rattle.std.proofs.Common.{◌≡◌, ℕ, zero, suc, ◌+◌, ◌≤◌, ◌<◌, inl, inr, Bool, true, false, cond, List, [], ◌∷◌, ◌++◌, codes, length}
+use Rattle.std.proofs.Common.{length-append, map, append-nil, append_assoc, Some, refl, sym, ap, subst, ◌∙◌, arith, one-add, if◌then◌else◌}
 use Rattle.std.specs.Prelude.{◌==◌, ◌||◌, ◌^◌, max, nat_le, nat_lt, option_map}
 use Rattle.std.specs.List.{AllByRecursion, IsDistinct, flat_map, list_all, position_or_len}
 use Rattle.std.specs.Str.{bytes_eq}
@@ -25,8 +26,10 @@ use Rattle.kms_model.specs.Script.Words.{is_label}
 use Rattle.kms_model.specs.Script.InputLines.{Row, rows_of}
 use Rattle.kms_model.specs.Script.Longer.{at_last, commands_of_last, with_commands}
 use Rattle.kms_model.specs.Script.Spelling.{Spells, name_word, spelt_line, spelt_lines}
-use Rattle.kms_model.specs.Script.WellFormed.{IsFitClient, IsFitCommand, IsWellFormed, is_assign_in, is_command_in, is_property_in, is_value_in, is_word32}
-use Rattle.kms_model.specs.Script.WholeInput.{Draft, blank_draft, clients_in, clients_of, client_line, command_line, is_nil, later_line, script_in, script_line, topology_in}
+use Rattle.kms_model.specs.Script.WellFormed.{IsFitClient, IsFitCommand, IsWellFormed, is_assign_in, is_command_in, is_property_in}
+use Rattle.kms_model.specs.Script.WellFormed.{is_value_in, is_word32}
+use Rattle.kms_model.specs.Script.WholeInput.{Draft, blank_draft, clients_in, clients_of, client_line, command_line, is_nil, later_line}
+use Rattle.kms_model.specs.Script.WholeInput.{script_in, script_line, topology_in}
 use Rattle.kms_words.specs.Printed.{fields}
 use Rattle.kms_words.proofs.Spaced.{line-fields}
 use Rattle.kms_script.specs.ReadAnew.{IsLineOf, IsSaid, renamed, renamed_assign, renamed_prop, renamed_value}

@@ -1,5 +1,6 @@
 -- Names so far are a front of all names of a script, so that a name's number gives its word back.
-use Rattle.std.proofs.Common.{◌≡◌, ℕ, ◌+◌, Bool, true, false, not, cond, get_or, List, [], ◌∷◌, ◌++◌, map, append-nil, append_assoc, one-add, refl, sym, ap, ◌∙◌}
+use Rattle.std.proofs.Common.{◌≡◌, ℕ, ◌+◌, Bool, true, false, not, cond, get_or, List, [], ◌∷◌, ◌++◌, map, append-nil, append_assoc}
+use Rattle.std.proofs.Common.{one-add, refl, sym, ap, ◌∙◌}
 use Rattle.std.specs.List.{position_or_len}
 use Rattle.std.specs.Str.{bytes_eq}
 use Rattle.std.proofs.lemmas.Slice.Eq.{bytes_eq-Decides}
@@ -38,7 +39,11 @@ pub before_saying : (all : List (List ℕ)) (w : List ℕ) (names : Names) → B
 unfolding saying
 before_saying all w names b =
     let g : Longer (words names.all) (words (said w names.all)) = grows w names.all in
-    record { more = g.tail ++ b.more; whole = b.whole ∙ ap (λ (vs : List (List ℕ)). vs ++ b.more) g.grown ∙ append_assoc (words names.all) g.tail b.more }
+    record {
+      more = g.tail ++ b.more;
+      whole = b.whole ∙ ap (λ (vs : List (List ℕ)). vs ++ b.more) g.grown ∙ append_assoc (words names.all)
+          g.tail b.more;
+    }
 
 at_step : (t : Bool) (w : List ℕ) (n : Name) (ns : List Name) (more : List (List ℕ)) → (t ≡ true → w ≡ n.word)
     → get_or (words (said w ns) ++ more) (position_or_len (is w) ns) [] ≡ w

@@ -1,5 +1,6 @@
 -- A command's line leaves the profile of the names as it was.
-use Rattle.std.proofs.Common.{◌≡◌, ℕ, suc, inl, inr, Bool, true, false, List, [], ◌∷◌, ◌++◌, length, length-append, All, ◌<◌, ◌≤◌, arith, Option, Some, None, Ok, cond, refl, sym, ap, subst, ◌∙◌}
+use Rattle.std.proofs.Common.{◌≡◌, ℕ, suc, inl, inr, Bool, true, false, List, [], ◌∷◌, ◌++◌, length, length-append, All, ◌<◌, ◌≤◌, arith}
+use Rattle.std.proofs.Common.{Option, Some, None, Ok, cond, refl, sym, ap, subst, ◌∙◌}
 use Rattle.std.specs.Prelude.{◌||◌, codes, nat_le, option_map}
 use Rattle.std.proofs.lemmas.Bool.{leb-false, or_parts}
 use Rattle.std.proofs.lemmas.List.Elements.{All-append, All-cons, All-nil}
@@ -9,7 +10,9 @@ use Rattle.kms_model.specs.declared.scripts.Command.{Command}
 use Rattle.kms_model.specs.declared.scripts.Command.TheVariants as command
 use Rattle.kms_model.specs.declared.scripts.Value.{Value}
 use Rattle.kms_model.specs.declared.scripts.Why.TheVariants.{Label, Limit}
-use Rattle.kms_model.specs.Script.CommandLines.{Names, addfb_read, assign_read, assign_words, assigns_read, atomic_read, blob_read, buffer_read, command_read, is_over, label_alone, label_read, making, making_read, mode_read, naming_read, property_read, saying, thing_read, value_read}
+use Rattle.kms_model.specs.Script.CommandLines.{Names, addfb_read, assign_read, assign_words, assigns_read, atomic_read, blob_read}
+use Rattle.kms_model.specs.Script.CommandLines.{buffer_read, command_read, is_over, label_alone, label_read, making, making_read, mode_read}
+use Rattle.kms_model.specs.Script.CommandLines.{naming_read, property_read, saying, thing_read, value_read}
 use Rattle.kms_model.specs.Script.Grammar.{int, known_property}
 use Rattle.kms_model.specs.Script.WellFormed.{IsFitCommand}
 use Rattle.kms_model.specs.Script.WholeInput.{clients_of}
@@ -146,7 +149,8 @@ fit_profile names text c after e fit =
     let read = form_ok (command_read names text) _ (c, after) e in
     let label = unless_ok read.value.1.is_twice Label _ (c, after) read.then in
     let limit = unless_ok (is_over read.value.0) Limit _ (c, after) label.1 in
-    let same : after.profile ≡ names.profile = ap (λ (r : Command × Names). r.1.profile) (sym (ok_same read.value (c, after) limit.1)) ∙ command_stays names text read.value read.given in
+    let same : after.profile ≡ names.profile = ap (λ (r : Command × Names). r.1.profile) (sym (ok_same read.value (c, after) limit.1)) ∙
+    command_stays names text read.value read.given in
     subst (λ p. IsFitProfile p) (sym same) fit
 
 -- with a command more there are as many clients
@@ -167,4 +171,5 @@ few_more commands new c t pushed none =
 -- with a command more that is within the limits, all are
 pub fit_more : (commands new : List Command) (c : Command) → new ≡ commands ++ c ∷ [] → All IsFitCommand commands → IsFitCommand c
     → All IsFitCommand new
-fit_more commands new c pushed all one = subst (λ xs. All IsFitCommand xs) (sym pushed) (All-append IsFitCommand commands (c ∷ []) all (All-cons IsFitCommand c [] one (All-nil IsFitCommand)))
+fit_more commands new c pushed all one = subst (λ xs. All IsFitCommand xs) (sym pushed)
+    (All-append IsFitCommand commands (c ∷ []) all (All-cons IsFitCommand c [] one (All-nil IsFitCommand)))

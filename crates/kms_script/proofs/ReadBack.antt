@@ -1,5 +1,6 @@
 -- A script and its schedule are read back.
-use Rattle.std.proofs.Common.{◌≡◌, ℕ, ◌+◌, Bool, true, false, inl, inr, List, [], ◌∷◌, ◌++◌, length, cond, Ok, Err, refl, sym, ap, ◌∙◌, subst, arith}
+use Rattle.std.proofs.Common.{◌≡◌, ℕ, ◌+◌, Bool, true, false, inl, inr, List, [], ◌∷◌, ◌++◌, length, cond, Ok, Err, refl, sym, ap, ◌∙◌}
+use Rattle.std.proofs.Common.{subst, arith}
 use Rattle.std.specs.Prelude.{Result, codes, ◌==◌, ◌&&◌}
 use Rattle.std.specs.List.{flat_map}
 use Rattle.std.specs.Str.{bytes_eq}
@@ -13,7 +14,8 @@ use Rattle.kms_model.specs.Script.CommandLines.{command_read, label_read, thing_
 use Rattle.kms_model.specs.Script.InputLines.{Fault, Row, input_limit, rows_of}
 use Rattle.kms_model.specs.Script.Schedules.{Parts, ends_script, input_of, parts_after, steps_in, with_schedule}
 use Rattle.kms_model.specs.Script.Spelling.{spelling, spelt_lines}
-use Rattle.kms_model.specs.Script.WholeInput.{Draft, blank_draft, command_line, crtcs_line, first_line, is_nil, later_line, line_after, lines_after, missing_line, script_in, script_line}
+use Rattle.kms_model.specs.Script.WholeInput.{Draft, blank_draft, command_line, crtcs_line, first_line, is_nil, later_line, line_after}
+use Rattle.kms_model.specs.Script.WholeInput.{lines_after, missing_line, script_in, script_line}
 use Rattle.kms_script.proofs.Accepted.{accepted}
 use Rattle.kms_script.proofs.Drafts.{next_line}
 use Rattle.kms_script.proofs.FitSteps.{history_fits}
@@ -46,7 +48,9 @@ not_last : (d next : Draft) (row : Row) → line_after d row ≡ Ok next → end
 not_last d next row e =
     let line = is_line (resized 0 d) (resized 0 next) row (line_is_spelt 0 d next row e) in
     elim (cases_Bool (bytes_eq row.text (codes "schedule"))) [
-      | inl is ↦ absurd (refused (resized 0 d) (resized 0 next) (subst (λ (w : List ℕ). script_line (resized 0 d) w ≡ Ok (resized 0 next)) ((bytes_eq-Decides row.text (codes "schedule")).0 is) line.accepted))
+      | inl is ↦ absurd (refused (resized 0 d) (resized 0 next)
+          (subst (λ (w : List ℕ). script_line (resized 0 d) w ≡ Ok (resized 0 next)) ((bytes_eq-Decides row.text (codes "schedule")).0 is)
+          line.accepted))
       | inr other ↦ rw other (never row.is_ended)
     ]
 
@@ -71,11 +75,21 @@ behind : (size n : ℕ) (d last : Draft) (rows more : List Row) → lines_after 
 unfolding lines_after
 behind size n d last [] more e =
     let end = ended_whole (is_nil d.conns) n d last e in
-    record { at = n; same = ap (λ (x : Draft). parts_after part.Schedule size x n more) end.1; whole = ap (λ (x : Draft). is_nil x.conns) (sym end.1) ∙ end.0 }
+    record {
+      at = n;
+      same = ap (λ (x : Draft). parts_after part.Schedule size x n more) end.1;
+      whole = ap (λ (x : Draft). is_nil x.conns)
+          (sym end.1) ∙ end.0;
+    }
 behind size n d last (row ∷ rows) more e =
     let u = no_fault n (line_after d row) _ last e in
     let later = behind size (n + 1) u.next last rows more u.then in
-    record { at = later.at; same = next_line part.Schedule size d u.next n row (rows ++ more) (not_last d u.next row u.is) u.is ∙ later.same; whole = later.whole }
+    record {
+      at = later.at;
+      same = next_line part.Schedule size d u.next n row (rows ++ more) (not_last d u.next row u.is) u.is ∙
+          later.same;
+      whole = later.whole;
+    }
 
 schedule_line : (size n : ℕ) (d : Draft) (rows : List Row) → is_nil d.conns ≡ false
     → parts_after part.Schedule size d n (ended_row (codes "schedule") ∷ rows) ≡ with_schedule size d (steps_in (n + 1) rows)
@@ -96,7 +110,8 @@ read_back s h formed is short small =
     let size = length (scheduled s h) in
     let steps : List ℕ = flat_map step_line h in
     let cut : rows_of (scheduled s h) ≡ rows ++ ended_row (codes "schedule") ∷ rows_of steps =
-    ap (λ (bs : List ℕ). rows_of (bs ++ (codes "schedule\n" ++ steps))) own ∙ rows_again blank_draft d.value rows (codes "schedule\n" ++ steps) d.given
+    ap (λ (bs : List ℕ). rows_of (bs ++ (codes "schedule\n" ++ steps))) own ∙ rows_again blank_draft d.value rows
+    (codes "schedule\n" ++ steps) d.given
     ∙ ap (λ (more : List Row). rows ++ more) (first_row (codes "schedule") steps refl) in
     let last : Draft = resized (0 + bytes_in rows) d.value in
     let read : lines_after blank_draft 1 rows ≡ Ok last = spelt_is_read 0 1 blank_draft d.value rows d.given (omega (arith, all, short)) in

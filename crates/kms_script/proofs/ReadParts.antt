@@ -10,7 +10,8 @@ use Rattle.kms_model.specs.declared.scripts.Command.{Command}
 use Rattle.kms_model.specs.declared.scripts.Command.TheVariants as command
 use Rattle.kms_model.specs.declared.scripts.Pattern.{Pattern}
 use Rattle.kms_model.specs.declared.scripts.Pattern.TheVariants.{Checker}
-use Rattle.kms_model.specs.Script.CommandLines.{Names, assigns_read, atomic_read, blob_read, buffer_read, checker_at, five_at, making, mode_fields, mode_read, pattern_at, place}
+use Rattle.kms_model.specs.Script.CommandLines.{Names, assigns_read, atomic_read, blob_read, buffer_read, checker_at, five_at, making}
+use Rattle.kms_model.specs.Script.CommandLines.{mode_fields, mode_read, pattern_at, place}
 use Rattle.kms_model.specs.Script.Grammar.{blob_bytes, field_words, format_at, hex, hex_at, is_hex_number, pixel_at}
 use Rattle.kms_model.specs.Script.Words.{dec_at, end_at, field_at, hex_from, is_name_byte, label_at, name_at, strip}
 use Rattle.kms_script.proofs.Inverted.{bind_some, from_bind, if_some, some_same}
@@ -40,7 +41,20 @@ five_parts bytes v is =
     from_bind (dec_at 65535 b.1) _ v more (λ c third more.
     from_bind (dec_at 65535 c.1) _ v more (λ d fourth more.
     from_bind (dec_at 65535 d.1) _ v more (λ e fifth more.
-    record { a = a; b = b; c = c; d = d; e = e; first = first; second = second; third = third; fourth = fourth; fifth = fifth; makes = some_same _ v more })))))
+    record {
+      a = a;
+      b = b;
+      c = c;
+      d = d;
+      e = e;
+      first = first;
+      second = second;
+      third = third;
+      fourth = fourth;
+      fifth = fifth;
+      makes =
+          some_same _ v more;
+    })))))
 
 -- a mode
 pub record IsMode (bytes : List ℕ) (m : Mode × List ℕ) : Type 0 where
@@ -58,7 +72,26 @@ pub record IsMode (bytes : List ℕ) (m : Mode × List ℕ) : Type 0 where
   pub flags : dec_at 4294967295 r.1 ≡ Some f
   pub kind : dec_at 4294967295 f.1 ≡ Some k
   pub name : name_at k.1 ≡ Some n
-  pub makes : (record { clock = clock.0; hdisplay = h.0; hsync_start = h.1; hsync_end = h.2; htotal = h.3; hskew = h.4; vdisplay = v.0; vsync_start = v.1; vsync_end = v.2; vtotal = v.3; vscan = v.4; vrefresh = r.0; flags = f.0; kind = k.0; name = n.0 }, n.1) ≡ m
+  pub makes : (
+    record {
+      clock = clock.0;
+      hdisplay = h.0;
+      hsync_start = h.1;
+      hsync_end = h.2;
+      htotal = h.3;
+      hskew = h.4;
+      vdisplay = v.0;
+      vsync_start = v.1;
+      vsync_end = v.2;
+      vtotal = v.3;
+      vscan = v.4;
+      vrefresh = r.0;
+      flags = f.0;
+      kind = k.0;
+      name = n.0;
+    },
+    n.1,
+  ) ≡ m
 
 pub mode_parts : (bytes : List ℕ) (m : Mode × List ℕ) → mode_fields bytes ≡ Some m → IsMode bytes m
 unfolding mode_fields
@@ -70,7 +103,24 @@ mode_parts bytes m e =
     from_bind (dec_at 4294967295 r.1) _ m more (λ f flags more.
     from_bind (dec_at 4294967295 f.1) _ m more (λ k kind more.
     from_bind (name_at k.1) _ m more (λ n name more.
-    record { clock = clock; h = h; v = v; r = r; f = f; k = k; n = n; first = first; across = across; down = down; rate = rate; flags = flags; kind = kind; name = name; makes = some_same _ m more })))))))
+    record {
+      clock = clock;
+      h = h;
+      v = v;
+      r = r;
+      f = f;
+      k = k;
+      n = n;
+      first = first;
+      across = across;
+      down = down;
+      rate = rate;
+      flags =
+          flags;
+      kind = kind;
+      name = name;
+      makes = some_same _ m more;
+    })))))))
 
 -- a buffer
 pub record IsBuffer (names : Names) (bytes : List ℕ) (b : Command × Names) : Type 0 where
@@ -94,7 +144,20 @@ buffer_parts names bytes b e =
     from_bind (dec_at 4294967295 w.1) _ b more (λ h high more.
     from_bind (format_at h.1) _ b more (λ format code more.
     from_bind (pattern_at w.0 h.0 format.0 format.1) _ b more (λ pattern shown more.
-    record { label = label; w = w; h = h; format = format; pattern = pattern; first = first; wide = wide; high = high; code = code; shown = shown; makes = some_same _ b more })))))
+    record {
+      label = label;
+      w = w;
+      h = h;
+      format = format;
+      pattern = pattern;
+      first = first;
+      wide = wide;
+      high = high;
+      code = code;
+      shown =
+          shown;
+      makes = some_same _ b more;
+    })))))
 
 -- a request
 pub record IsRequest (names : Names) (bytes : List ℕ) (a : Command × Names) : Type 0 where
@@ -115,7 +178,18 @@ request_parts names bytes a e =
     from_bind (dec_at 18446744073709551615 flags.1) _ a more (λ user second more.
     from_bind (field_words user.1) _ a more (λ words rest more.
     from_bind (assigns_read names words) _ a more (λ sets given more.
-    record { flags = flags; user = user; words = words; sets = sets; first = first; second = second; rest = rest; given = given; makes = some_same _ a more }))))
+    record {
+      flags = flags;
+      user = user;
+      words = words;
+      sets = sets;
+      first = first;
+      second = second;
+      rest = rest;
+      given = given;
+      makes =
+          some_same _ a more;
+    }))))
 
 -- squares of two colours
 pub record IsChecker (format : Format) (bytes : List ℕ) (pattern : Pattern) : Type 0 where
@@ -138,7 +212,17 @@ checker_parts format bytes pattern e =
     from_bind (dec_at 4096 q.1) _ pattern more (λ n side more.
     from_bind (end_at n.1) _ pattern more (λ u end more.
     let read = if_some (nat_lt 0 n.0) (Some (Checker p.0 q.0 n.0)) pattern more in
-    record { p = p; q = q; n = n; first = first; second = second; side = side; end = end; some = read.0; makes = some_same _ pattern read.1 }))))
+    record {
+      p = p;
+      q = q;
+      n = n;
+      first = first;
+      second = second;
+      side = side;
+      end = end;
+      some = read.0;
+      makes = some_same _ pattern read.1;
+    }))))
 
 -- a number of hexadecimal digits
 pub record IsHex (word : List ℕ) (n : ℕ) : Type 0 where

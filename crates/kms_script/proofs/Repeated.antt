@@ -1,5 +1,6 @@
 -- Numbers in order, and labels as numbers: whether one of them comes twice.
-use Rattle.std.proofs.Common.{◌≡◌, ℕ, ◌+◌, ◌*◌, ◌<◌, ◌≤◌, suc, Bool, true, false, List, [], ◌∷◌, ◌++◌, length, cond, append_assoc, append-nil, refl, sym, ap, subst, ◌∙◌, arith}
+use Rattle.std.proofs.Common.{◌≡◌, ℕ, ◌+◌, ◌*◌, ◌<◌, ◌≤◌, suc, Bool, true, false, List, [], ◌∷◌, ◌++◌, length, cond, append_assoc}
+use Rattle.std.proofs.Common.{append-nil, refl, sym, ap, subst, ◌∙◌, arith}
 use Rattle.std.specs.Prelude.{◌||◌, ◌&&◌, ◌==◌, nat_le}
 use Rattle.std.specs.Bool.{Decides, nat_eq}
 use Rattle.std.specs.Cmp.{nat_eq_equiv}
@@ -183,10 +184,12 @@ unfolding IsDistinct
 clash_step true l w ws rest e label ih any d =
     let same : l ≡ w = (bytes_eq-Decides l w).0 e in
     let alone : packed_alone w ≡ packed l ∷ [] = rw (← same, label) refl in
-    let d' : IsDistinct nat_eq (packed l ∷ (packed_all ws ++ packed l ∷ rest)) = subst (λ (ns : List ℕ). IsDistinct nat_eq (ns ++ packed_all ws ++ packed l ∷ rest)) alone d in
+    let d' : IsDistinct nat_eq (packed l ∷ (packed_all ws ++ packed l ∷ rest)) = subst
+    (λ (ns : List ℕ). IsDistinct nat_eq (ns ++ packed_all ws ++ packed l ∷ rest)) alone d in
     same_apart (packed l) (packed_all ws) rest d'.0
 clash_step false l w ws rest e label ih any d =
-    ih any (tail_distinct (packed_alone w) (packed_all ws ++ packed l ∷ rest) (subst (λ (ns : List ℕ). IsDistinct nat_eq ns) (append_assoc (packed_alone w) (packed_all ws) (packed l ∷ rest)) d))
+    ih any (tail_distinct (packed_alone w) (packed_all ws ++ packed l ∷ rest)
+    (subst (λ (ns : List ℕ). IsDistinct nat_eq ns) (append_assoc (packed_alone w) (packed_all ws) (packed l ∷ rest)) d))
 
 clash : (l : List ℕ) (ws : List (List ℕ)) (rest : List ℕ) → is_label l ≡ true → list_any (bytes_eq l) ws ≡ true
     → IsDistinct nat_eq (packed_all ws ++ packed l ∷ rest) → ⊥
@@ -221,13 +224,16 @@ OnceOrTwice false ns = IsDistinct nat_eq ns
 
 once_step : (t : Bool) (seen : List (List ℕ)) (label : List ℕ) (labels : List (List ℕ)) → list_any (bytes_eq label) seen ≡ t
     → IsDistinct bytes_eq seen → is_label label ≡ true
-    → (IsDistinct bytes_eq (seen ++ label ∷ []) → OnceOrTwice (twice_in (seen ++ label ∷ []) labels) (packed_all (seen ++ label ∷ []) ++ packed_all labels))
+    → (IsDistinct bytes_eq (seen ++ label ∷ []) → OnceOrTwice (twice_in (seen ++ label ∷ []) labels)
+    (packed_all (seen ++ label ∷ []) ++ packed_all labels))
     → OnceOrTwice (t || twice_in (seen ++ label ∷ []) labels) (packed_all seen ++ (packed label ∷ packed_all labels))
 once_step true seen label labels e d is ih = clash label seen (packed_all labels) is e
 once_step false seen label labels e d is ih =
     let alone : packed_alone label ≡ packed label ∷ [] = rw is refl in
     let whole : packed_all (seen ++ label ∷ []) ++ packed_all labels ≡ packed_all seen ++ (packed label ∷ packed_all labels) =
-    ap (λ (ns : List ℕ). ns ++ packed_all labels) (numbers_append seen (label ∷ []) ∙ ap (λ (ns : List ℕ). packed_all seen ++ (ns ++ [])) alone) ∙ append_assoc (packed_all seen) (packed label ∷ []) (packed_all labels) in
+    ap (λ (ns : List ℕ). ns ++ packed_all labels)
+    (numbers_append seen (label ∷ []) ∙ ap (λ (ns : List ℕ). packed_all seen ++ (ns ++ [])) alone) ∙ append_assoc (packed_all seen)
+    (packed label ∷ []) (packed_all labels) in
     subst (λ (ns : List ℕ). OnceOrTwice (twice_in (seen ++ label ∷ []) labels) ns) whole (ih (distinct_last label seen e d))
 
 pub once_or_twice : (labels seen : List (List ℕ)) → IsDistinct bytes_eq seen → AllByRecursion (λ l. is_label l ≡ true) labels
@@ -238,4 +244,5 @@ once_or_twice [] seen d all = subst (λ (ns : List ℕ). IsDistinct nat_eq ns) (
     nothing ns = append-nil ns
 once_or_twice (label ∷ labels) seen d all =
     let alone : packed_alone label ≡ packed label ∷ [] = rw all.0 refl in
-    rw alone (once_step (list_any (bytes_eq label) seen) seen label labels refl d all.0 (λ d'. once_or_twice labels (seen ++ label ∷ []) d' all.1))
+    rw alone (once_step (list_any (bytes_eq label) seen) seen label labels refl d all.0
+    (λ d'. once_or_twice labels (seen ++ label ∷ []) d' all.1))

@@ -1,5 +1,6 @@
 -- Lines put together again are cut into the same lines.
-use Rattle.std.proofs.Common.{◌≡◌, ℕ, Bool, true, false, List, [], ◌∷◌, ◌++◌, append-nil, append_assoc, cond, Some, refl, sym, ap, ◌∙◌, arith}
+use Rattle.std.proofs.Common.{◌≡◌, ℕ, Bool, true, false, List, [], ◌∷◌, ◌++◌, append-nil, append_assoc, cond, Some, refl, sym, ap, ◌∙◌}
+use Rattle.std.proofs.Common.{arith}
 use Rattle.std.specs.Prelude.{◌==◌}
 use Rattle.std.specs.List.{flat_map, list_all}
 use Rattle.std.proofs.lemmas.Bool.{and_parts}
@@ -43,8 +44,10 @@ rows_again d last (row ∷ rows) more e =
     let b = bind_some (spelt_line d row) _ last e in
     let l = is_line d b.value row b.given in
     let later : List ℕ = flat_map ended_text rows ++ more in
-    let parted : (ended_text row ++ flat_map ended_text rows) ++ more ≡ row.text ++ 10 ∷ later = append_assoc (ended_text row) (flat_map ended_text rows) more ∙ append_assoc row.text (10 ∷ []) later in
-    ap rows_of parted ∙ first_row row.text later l.printable ∙ rw (is_ended_row row l.is_ended, rows_again b.value last rows more b.then) refl
+    let parted : (ended_text row ++ flat_map ended_text rows) ++ more ≡ row.text ++ 10
+    ∷ later = append_assoc (ended_text row) (flat_map ended_text rows) more ∙ append_assoc row.text (10 ∷ []) later in
+    ap rows_of parted ∙ first_row row.text later l.printable ∙ rw (is_ended_row row l.is_ended, rows_again b.value last rows more b.then)
+    refl
 
 pub rows_alone : (d last : Draft) (rows : List Row) → spelt_lines d rows ≡ Some last → rows_of (flat_map ended_text rows) ≡ rows
 unfolding rows_of

@@ -1,5 +1,6 @@
 -- Lines that spell a script are the text of the draft that they make.
-use Rattle.std.proofs.Common.{◌≡◌, ℕ, ◌≤◌, inl, inr, Bool, true, false, List, [], ◌∷◌, ◌++◌, append-nil, append_assoc, cond, Some, None, Ok, Err, refl, sym, ap, ◌∙◌, subst, arith}
+use Rattle.std.proofs.Common.{◌≡◌, ℕ, ◌≤◌, inl, inr, Bool, true, false, List, [], ◌∷◌, ◌++◌, append-nil, append_assoc, cond, Some, None, Ok}
+use Rattle.std.proofs.Common.{Err, refl, sym, ap, ◌∙◌, subst, arith}
 use Rattle.std.specs.Prelude.{◌&&◌}
 use Rattle.std.specs.List.{flat_map, list_all}
 use Rattle.std.proofs.lemmas.Bool.{and_parts, cases_lt}
@@ -64,7 +65,8 @@ first_row d next last row rows ended f r = record {
   ended = rw (ended, r.ended) refl;
   spelt = λ all b. (let later = r.spelt all b in let first = f.spelt all later.begins in record {
     begins = first.begins;
-    grown = sym (append_assoc (draft_text all d) (ended_text row) (flat_map ended_text rows)) ∙ ap (λ (bs : List ℕ). bs ++ flat_map ended_text rows) first.grown ∙ later.grown;
+    grown = sym (append_assoc (draft_text all d) (ended_text row) (flat_map ended_text rows)) ∙ ap
+        (λ (bs : List ℕ). bs ++ flat_map ended_text rows) first.grown ∙ later.grown;
   });
 }
 

@@ -1,5 +1,6 @@
 -- What was read with a schedule has the text of both.
-use Rattle.std.proofs.Common.{◌≡◌, ℕ, ◌+◌, inl, inr, Bool, true, false, List, [], ◌∷◌, ◌++◌, length, cond, Option, Some, None, Ok, Err, refl, sym, ap, ◌∙◌, subst}
+use Rattle.std.proofs.Common.{◌≡◌, ℕ, ◌+◌, inl, inr, Bool, true, false, List, [], ◌∷◌, ◌++◌, length, cond, Option, Some, None, Ok, Err}
+use Rattle.std.proofs.Common.{refl, sym, ap, ◌∙◌, subst}
 use Rattle.std.specs.Prelude.{IfOk, Result, codes, not, ◌&&◌}
 use Rattle.std.specs.List.{flat_map, list_all}
 use Rattle.std.specs.Str.{bytes_eq}
@@ -53,7 +54,8 @@ unfolding step_in_row
 is_step_row n row step e = go (step_read row.text) refl
   where
     go : (o : Option Step) → step_read row.text ≡ o → IsStepRow row step
-    go None is = (let g = rw is at e in let passed = no_faults (not (list_all is_printable row.text)) (not row.is_ended) _ _ _ step g in let wrong = passed.1 in absurd cc)
+    go None is = (let g = rw is at e in let passed = no_faults (not (list_all is_printable row.text)) (not row.is_ended) _ _ _ step g
+        in let wrong = passed.1 in absurd cc)
     go (Some found) is =
         let g = rw is at e in
         let passed = no_faults (not (list_all is_printable row.text)) (not row.is_ended) _ _ _ step g in
@@ -85,7 +87,8 @@ steps_spelt n (row ∷ rows) steps e =
     let h = has_step (step_in_row n row) (steps_in (n + 1) rows) steps e in
     let first = is_step_row n row h.step h.first in
     let later = steps_spelt (n + 1) rows h.later h.rest in
-    let line : ended_text row ≡ step_line h.step = ap (λ (bs : List ℕ). bs ++ 10 ∷ []) (line_of_step row.text h.step first.read).text ∙ sym (line_ended h.step) in
+    let line : ended_text row ≡ step_line h.step = ap (λ (bs : List ℕ). bs ++ 10 ∷ []) (line_of_step row.text h.step first.read).text ∙ sym
+    (line_ended h.step) in
     record {
       ended = rw (first.ended, later.ended) refl;
       text = rw (line, later.text) (ap (flat_map step_line) h.are);
@@ -110,13 +113,18 @@ schedule_text bytes x e =
       | inr end ↦ inl (with_end f.last f.front t end)
     ]
   where
-    with_end : (last : Draft) (front : List Row) → IsFrontText front x.script → HasEnd part.Schedule (length bytes) last front (rows_of bytes) x → bytes ≡ scheduled x.script x.steps
+    with_end : (last : Draft) (front : List Row) → IsFrontText front x.script
+        → HasEnd part.Schedule (length bytes) last front (rows_of bytes) x → bytes ≡ scheduled x.script x.steps
     with_end last front t end =
         let word = ends_by_word end.row.is_ended (bytes_eq end.row.text (codes "schedule")) (not (is_nil last.conns)) end.ends in
-        let steps = steps_spelt (end.line + 1) end.more x.steps (steps_given (length bytes) last (steps_in (end.line + 1) end.more) x end.then) in
-        let first : ended_text end.row ≡ codes "schedule\n" = ap (λ (bs : List ℕ). bs ++ 10 ∷ []) ((bytes_eq-Decides end.row.text (codes "schedule")).0 word.1) in
-        let ended : all_ended (rows_of bytes) ≡ true = ap all_ended end.are ∙ list_all-append (λ (r : Row). r.is_ended) front (end.row ∷ end.more) ∙ and_from _ _ t.ended (and_from _ _ word.0 steps.ended) in
-        sym (rows_spell bytes ended) ∙ ap (flat_map ended_text) end.are ∙ flat_map-append ended_text front (end.row ∷ end.more) ∙ rw (t.text, first, steps.text) refl
+        let steps = steps_spelt (end.line + 1) end.more x.steps
+        (steps_given (length bytes) last (steps_in (end.line + 1) end.more) x end.then) in
+        let first : ended_text end.row ≡ codes "schedule\n" = ap (λ (bs : List ℕ). bs ++ 10 ∷ [])
+        ((bytes_eq-Decides end.row.text (codes "schedule")).0 word.1) in
+        let ended : all_ended (rows_of bytes) ≡ true = ap all_ended end.are ∙ list_all-append (λ (r : Row). r.is_ended) front
+        (end.row ∷ end.more) ∙ and_from _ _ t.ended (and_from _ _ word.0 steps.ended) in
+        sym (rows_spell bytes ended) ∙ ap (flat_map ended_text) end.are ∙ flat_map-append ended_text front (end.row ∷ end.more) ∙ rw
+        (t.text, first, steps.text) refl
 
 -- what was read of an input with a schedule
 pub read_text : (p : Part) (bytes : List ℕ) (r : Result Parsed ParseError) → Gives parts_in r (input_of p bytes) → p ≡ part.Schedule

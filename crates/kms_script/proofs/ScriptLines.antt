@@ -6,11 +6,13 @@ use Rattle.std.specs.Str.{bytes_eq}
 use Rattle.std.proofs.lemmas.Bool.{eqb-true}
 use Rattle.kms_model.specs.declared.scripts.Why.TheVariants.{Form, Label, Limit}
 use Rattle.kms_model.specs.Script.CommandLines.{command_read, is_over}
-use Rattle.kms_model.specs.Script.WholeInput.{Draft, is_nil, crtcs_at, plane_fields, conn_at, clients_in, first_line, crtcs_line, plane_line, conn_line, client_line, command_line, later_line, script_line, version_read}
+use Rattle.kms_model.specs.Script.WholeInput.{Draft, is_nil, crtcs_at, plane_fields, conn_at, clients_in, first_line, crtcs_line}
+use Rattle.kms_model.specs.Script.WholeInput.{plane_line, conn_line, client_line, command_line, later_line, script_line, version_read}
 use Rattle.kms_model.specs.Script.Words.{until, from, end_at}
 use Rattle.kms_model.specs.Script.Spelling.{crtcs_word}
 use Rattle.kms_script.proofs.Accepted.{accepted, form_ok, unless_ok, if_ok, either_ok, ok_same, second_off, on_from, is_late}
-use Rattle.kms_script.proofs.DraftGrows.{IsInOrder, Follows, with_client, with_version, first_follows, second_follows, plane_follows, conn_follows, client_follows, command_follows}
+use Rattle.kms_script.proofs.DraftGrows.{IsInOrder, Follows, with_client, with_version, first_follows, second_follows, plane_follows}
+use Rattle.kms_script.proofs.DraftGrows.{conn_follows, client_follows, command_follows}
 use Rattle.kms_script.proofs.LineFields.{end_spelt}
 use Rattle.kms_script.proofs.LinesSpelt.{line_spelt, later_words, count_spelt, plane_spelt, conn_spelt}
 
@@ -23,7 +25,8 @@ first_line_follows : (d next : Draft) (text : List ℕ) → IsInOrder d → d.he
 unfolding first_line
 first_line_follows d next text o zeroth e =
     let version = form_ok (version_read text) _ next e in
-    subst (λ n. Follows d n text) (ok_same (with_version d version.value) next version.then) (first_follows d version.value text o zeroth version.given)
+    subst (λ n. Follows d n text) (ok_same (with_version d version.value) next version.then)
+    (first_follows d version.value text o zeroth version.given)
 
 -- the second line
 crtcs_line_follows : (d next : Draft) (text : List ℕ) → IsInOrder d → d.head ≡ 1 → crtcs_line d text ≡ Ok next → Follows d next text
@@ -44,7 +47,8 @@ plane_line_follows d next text o late is e =
     let form = unless_ok (not (is_nil d.conns)) Form _ next p.then in
     let limit = unless_ok (nat_le 16 (length d.planes)) Limit _ next form.1 in
     subst (λ n. Follows d n text) (ok_same (record d { planes = d.planes ++ p.value ∷ [] }) next limit.1)
-    (plane_follows d p.value text o late (on_from (is_nil d.conns) form.0) (line_spelt (codes "plane") (later_words p.value) text is (plane_spelt d.crtcs (from 32 text) p.value o.crtcs p.given)))
+    (plane_follows d p.value text o late (on_from (is_nil d.conns) form.0)
+    (line_spelt (codes "plane") (later_words p.value) text is (plane_spelt d.crtcs (from 32 text) p.value o.crtcs p.given)))
 
 -- a line of a connector
 conn_line_follows : (d next : Draft) (text : List ℕ) → IsInOrder d → 2 ≤ d.head → begins_with (codes "conn") text
@@ -55,7 +59,8 @@ conn_line_follows d next text o late is e =
     let form = unless_ok (is_nil d.planes || d.has_client) Form _ next mask.then in
     let limit = unless_ok (nat_le 8 (length d.conns)) Limit _ next form.1 in
     subst (λ n. Follows d n text) (ok_same (record d { conns = d.conns ++ mask.value ∷ [] }) next limit.1)
-    (conn_follows d mask.value text o late (second_off (is_nil d.planes) d.has_client form.0) (line_spelt (codes "conn") (crtcs_word mask.value ∷ []) text is (conn_spelt d.crtcs (from 32 text) mask.value o.crtcs mask.given)))
+    (conn_follows d mask.value text o late (second_off (is_nil d.planes) d.has_client form.0)
+    (line_spelt (codes "conn") (crtcs_word mask.value ∷ []) text is (conn_spelt d.crtcs (from 32 text) mask.value o.crtcs mask.given)))
 
 -- a line of a client
 client_line_follows : (d next : Draft) (text : List ℕ) → IsInOrder d → 2 ≤ d.head → begins_with (codes "client") text
@@ -65,7 +70,8 @@ client_line_follows d next text o late is e =
     let done = form_ok (end_at (from 32 text)) _ next e in
     let form = unless_ok (is_nil d.conns) Form _ next done.then in
     let limit = unless_ok (nat_le 16 (length (clients_in d))) Limit _ next form.1 in
-    subst (λ n. Follows d n text) (ok_same (with_client d) next limit.1) (client_follows d text o late form.0 (line_spelt (codes "client") [] text is (end_spelt (from 32 text) done.value done.given)))
+    subst (λ n. Follows d n text) (ok_same (with_client d) next limit.1)
+    (client_follows d text o late form.0 (line_spelt (codes "client") [] text is (end_spelt (from 32 text) done.value done.given)))
 
 -- a line of a command
 command_line_follows : (d next : Draft) (text : List ℕ) → IsInOrder d → 2 ≤ d.head → command_line d text ≡ Ok next → Follows d next text

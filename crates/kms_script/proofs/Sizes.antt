@@ -5,7 +5,8 @@ use Rattle.std.specs.Str.{bytes_eq}
 use Rattle.kms_model.specs.declared.scripts.Why.{Why}
 use Rattle.kms_model.specs.declared.scripts.Why.TheVariants.{Form, Label, Limit}
 use Rattle.kms_model.specs.Script.CommandLines.{command_read, or_form, unless}
-use Rattle.kms_model.specs.Script.WholeInput.{Draft, Lined, crtcs_at, plane_fields, conn_at, first_line, crtcs_line, plane_line, conn_line, client_line, command_line, later_line, script_line, version_read}
+use Rattle.kms_model.specs.Script.WholeInput.{Draft, Lined, crtcs_at, plane_fields, conn_at, first_line, crtcs_line, plane_line, conn_line}
+use Rattle.kms_model.specs.Script.WholeInput.{client_line, command_line, later_line, script_line, version_read}
 use Rattle.kms_model.specs.Script.Words.{until, from, end_at}
 
 -- a draft of so many bytes
@@ -58,7 +59,8 @@ pub line_same : (n : ℕ) (d : Draft) (text : List ℕ) → script_line (resized
 unfolding script_line first_line crtcs_line later_line
 line_same n d text =
     in_choice n (d.head == 0) _ _ _ _ (in_form n (version_read text) _ _ (λ version. refl))
-    (in_choice n (d.head == 1) _ _ _ _ (in_choice n (bytes_eq (until 32 text) (codes "crtcs")) _ _ _ _ (in_form n (crtcs_at (from 32 text)) _ _ (λ m. refl)) refl)
+    (in_choice n (d.head == 1) _ _ _ _ (in_choice n (bytes_eq (until 32 text) (codes "crtcs")) _ _ _ _
+    (in_form n (crtcs_at (from 32 text)) _ _ (λ m. refl)) refl)
     (in_choice n (bytes_eq (until 32 text) (codes "plane")) _ _ _ _ (plane_same n d (from 32 text))
     (in_choice n (bytes_eq (until 32 text) (codes "conn")) _ _ _ _ (conn_same n d (from 32 text))
     (in_choice n (bytes_eq (until 32 text) (codes "client")) _ _ _ _ (client_same n d (from 32 text)) (command_same n d text)))))

@@ -9,7 +9,8 @@ use Rattle.kms_model.specs.declared.scripts.PropRef.{PropRef}
 use Rattle.kms_model.specs.declared.scripts.PropRef.TheVariants.{Known, Unknown}
 use Rattle.kms_model.specs.declared.scripts.Value.{Value}
 use Rattle.kms_model.specs.declared.scripts.Value.TheVariants as value
-use Rattle.kms_model.specs.Script.CommandLines.{Names, place, saying, making, assign_words, property_read, value_read, assign_read, assigns_read}
+use Rattle.kms_model.specs.Script.CommandLines.{Names, place, saying, making, assign_words, property_read, value_read, assign_read}
+use Rattle.kms_model.specs.Script.CommandLines.{assigns_read}
 use Rattle.kms_model.specs.Script.Grammar.{int, object, is_property_word, known_property}
 use Rattle.kms_model.specs.Script.Words.{until, from, strip, dec, is_label}
 use Rattle.kms_model.specs.Report.Replies.{kind_name}
@@ -49,19 +50,26 @@ Valued all names r word = Begins r.1 all → Named names all (value_word all r.0
 -- a label behind `@`
 named_value : (all : List (List ℕ)) (names : Names) (word label : List ℕ) (r : Value × Names) → codes "@" ++ label ≡ word
     → (value.Named (place label names), saying label names) ≡ r → Valued all names r word
-named_value all names word label r e is = rw (← is) (λ b. record { begins = before_saying all label names b; same = ap (λ (w : List ℕ). codes "@" ++ w) (said_word all label names b) ∙ e })
+named_value all names word label r e is = rw (← is)
+    (λ b. record { begins = before_saying all label names b; same = ap (λ (w : List ℕ). codes "@" ++ w) (said_word all label names b) ∙ e })
 
 -- a label behind `+`
 new_value : (all : List (List ℕ)) (names : Names) (word label : List ℕ) (r : Value × Names) → codes "+" ++ label ≡ word
     → (value.New (place label names), making label names) ≡ r → Valued all names r word
-new_value all names word label r e is = rw (← is) (λ b. let s = making_says all label names b in record { begins = before_saying all label names s; same = ap (λ (w : List ℕ). codes "+" ++ w) (said_word all label names s) ∙ e })
+new_value all names word label r e is = rw (← is)
+    (λ b. let s = making_says all label names b
+    in record { begins = before_saying all label names s; same = ap (λ (w : List ℕ). codes "+" ++ w) (said_word all label names s) ∙ e })
 
 -- an index behind `crtc`
 crtc_value : (all : List (List ℕ)) (names : Names) (word digits : List ℕ) (r : Value × Names) → codes "crtc" ++ digits ≡ word
     → option_map (λ i. (value.Crtc i, names)) (dec 255 digits) ≡ Some r → Valued all names r word
 crtc_value all names word digits r e is =
     let m = map_some _ (dec 255 digits) r is in
-    rw (← m.makes) (λ b. record { begins = b; same = ap (λ (w : List ℕ). codes "crtc" ++ w) (dec_spelt 255 m.value digits (omega arith) m.given) ∙ e })
+    rw (← m.makes) (λ b. record {
+      begins = b;
+      same = ap (λ (w : List ℕ). codes "crtc" ++ w)
+          (dec_spelt 255 m.value digits (omega arith) m.given) ∙ e;
+    })
 
 -- a number
 number_value : (all : List (List ℕ)) (names : Names) (word : List ℕ) (r : Value × Names)
@@ -75,9 +83,11 @@ pub value_named : (all : List (List ℕ)) (names : Names) (word : List ℕ) (r :
     → Valued all names r word
 unfolding value_read
 value_named all names word r e = elim (or_some _ (strip (codes "@") word) _ r e) [
-  | inl at ↦ (let l = if_some (is_label at.value) _ r at.then in named_value all names word at.value r (strip_spelt (codes "@") word at.value at.given) (some_same _ r l.1))
+  | inl at ↦ (let l = if_some (is_label at.value) _ r at.then
+      in named_value all names word at.value r (strip_spelt (codes "@") word at.value at.given) (some_same _ r l.1))
   | inr more ↦ elim (or_some _ (strip (codes "+") word) _ r more) [
-    | inl plus ↦ (let l = if_some (is_label plus.value) _ r plus.then in new_value all names word plus.value r (strip_spelt (codes "+") word plus.value plus.given) (some_same _ r l.1))
+    | inl plus ↦ (let l = if_some (is_label plus.value) _ r plus.then
+        in new_value all names word plus.value r (strip_spelt (codes "+") word plus.value plus.given) (some_same _ r l.1))
     | inr last ↦ elim (or_some _ (strip (codes "crtc") word) _ r last) [
       | inl crtc ↦ crtc_value all names word crtc.value r (strip_spelt (codes "crtc") word crtc.value crtc.given) crtc.then
       | inr number ↦ number_value all names word r number
@@ -108,9 +118,12 @@ assign_words_spelt word w e =
     let tail = bind_some (strip (codes ".") (from 46 word)) _ w o.then in
     let given = bind_some (strip (codes "=") (from 61 tail.value)) _ w tail.then in
     let read = if_some (is_property_word (until 61 tail.value)) _ w given.then in
-    let behind : until 61 tail.value ++ (codes "=" ++ given.value) ≡ tail.value = rw (strip_spelt (codes "=") (from 61 tail.value) given.value given.given) (until_from 61 tail.value) in
-    rw (← some_same _ w read.1) (words_joined (kind_name o.value.0) (decimal o.value.1) (until 61 tail.value) given.value tail.value (until 46 word) (from 46 word) word
-    (object_spelt o.value (until 46 word) o.given) (strip_spelt (codes ".") (from 46 word) tail.value tail.given) behind (until_from 46 word))
+    let behind : until 61 tail.value ++ (codes "=" ++ given.value)
+    ≡ tail.value = rw (strip_spelt (codes "=") (from 61 tail.value) given.value given.given) (until_from 61 tail.value) in
+    rw (← some_same _ w read.1) (words_joined (kind_name o.value.0) (decimal o.value.1) (until 61 tail.value) given.value tail.value
+    (until 46 word) (from 46 word) word
+    (object_spelt o.value (until 46 word) o.given) (strip_spelt (codes ".") (from 46 word) tail.value tail.given) behind
+    (until_from 46 word))
 
 -- the property and the value as words
 assign_joined : (all : List (List ℕ)) (w : Parts) (p : PropRef) (v : Value) (word : List ℕ) → property_word all p ≡ w.2
@@ -128,7 +141,11 @@ assign_named all names word r e =
     rw (← some_same _ r v.then) (λ b.
     let val = value_named all ((property_read names w.value.2).1) w.value.3 v.value v.given b in
     let prop = property_named all names w.value.2 val.begins in
-    record { begins = prop.begins; same = assign_joined all w.value ((property_read names w.value.2).0) v.value.0 word prop.same val.same (assign_words_spelt word w.value w.given) })
+    record {
+      begins = prop.begins;
+      same = assign_joined all w.value ((property_read names w.value.2).0) v.value.0 word prop.same val.same
+          (assign_words_spelt word w.value w.given);
+    })
 
 -- a first word and more
 front_and_more : (w v : List ℕ) (ws vs : List (List ℕ)) → w ≡ v → ws ≡ vs → w ∷ ws ≡ v ∷ vs
@@ -144,4 +161,8 @@ assigns_named all (w ∷ ws) names r e =
     rw (← some_same _ r more.then) (λ b.
     let later = assigns_named all ws a.value.1 more.value more.given b in
     let first = assign_named all names w a.value a.given later.begins in
-    record { begins = first.begins; same = front_and_more (assign_word all a.value.0) w (map (assign_word all) more.value.0) ws first.same later.same })
+    record {
+      begins = first.begins;
+      same = front_and_more (assign_word all a.value.0) w (map (assign_word all) more.value.0) ws first.same
+          later.same;
+    })

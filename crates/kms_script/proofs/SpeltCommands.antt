@@ -35,7 +35,8 @@ atomic_reads all names bytes r e =
       begins = a.begins;
       words = _;
       known = refl;
-      fields = atomic_joined bytes p.flags p.user (map (assign_word all) p.sets.0) p.words a.same (hex_at_spelt bytes p.flags p.first) (dec_at_spelt 18446744073709551615 p.flags.1 p.user (omega arith) p.second) (words_spelt p.user.1 p.words p.rest);
+      fields = atomic_joined bytes p.flags p.user (map (assign_word all) p.sets.0) p.words a.same (hex_at_spelt bytes p.flags p.first)
+          (dec_at_spelt 18446744073709551615 p.flags.1 p.user (omega arith) p.second) (words_spelt p.user.1 p.words p.rest);
     })
 
 -- a wait
@@ -71,10 +72,14 @@ label_reads : (all : List (List ℕ)) (names : Names) (keyword bytes : List ℕ)
     → label_read names keyword bytes ≡ Some r → Reads all names keyword bytes r.0
 unfolding label_read
 label_reads all names keyword bytes r b e =
-    by_word all names keyword (codes "destroy") bytes r _ _ (λ h. naming_reads all (codes "destroy") command.Destroy (λ n. refl) names bytes r h b)
-    (by_word all names keyword (codes "closefb") bytes r _ _ (λ h. naming_reads all (codes "closefb") command.CloseFb (λ n. refl) names bytes r h b)
-    (by_word all names keyword (codes "fence") bytes r _ _ (λ h. making_reads all (codes "fence") command.Fence (λ n. refl) names bytes r h b)
-    (by_word all names keyword (codes "signal") bytes r _ _ (λ h. naming_reads all (codes "signal") command.Signal (λ n. refl) names bytes r h b)
+    by_word all names keyword (codes "destroy") bytes r _ _
+    (λ h. naming_reads all (codes "destroy") command.Destroy (λ n. refl) names bytes r h b)
+    (by_word all names keyword (codes "closefb") bytes r _ _
+    (λ h. naming_reads all (codes "closefb") command.CloseFb (λ n. refl) names bytes r h b)
+    (by_word all names keyword (codes "fence") bytes r _ _
+    (λ h. making_reads all (codes "fence") command.Fence (λ n. refl) names bytes r h b)
+    (by_word all names keyword (codes "signal") bytes r _ _
+    (λ h. naming_reads all (codes "signal") command.Signal (λ n. refl) names bytes r h b)
     (thing_reads all names keyword bytes r b)))) e
 
 -- any command
@@ -107,4 +112,5 @@ command_spelt all before after text c e b =
 -- names before a command's line are a front of a script's where those after it are
 pub names_begin : (all : List (List ℕ)) (before after : Names) (text : List ℕ) (c : Command) → command_read before text ≡ Some (c, after)
     → Begins after all → Begins before all
-names_begin all before after text c e b = let r : Reads all before (until 32 text) (from 32 text) c = command_reads all before text (c, after) b e in r.begins
+names_begin all before after text c e b = let r : Reads all before (until 32 text) (from 32 text) c = command_reads all before text
+    (c, after) b e in r.begins

@@ -1,5 +1,6 @@
 -- The fields that readers take are written as they stood.
-use Rattle.std.proofs.Common.{◌≡◌, ℕ, zero, suc, ◌-◌, ◌<◌, ◌^◌, Bool, true, false, List, [], ◌∷◌, ◌++◌, length, replicate, cond, Option, Some, refl, ap, arith}
+use Rattle.std.proofs.Common.{◌≡◌, ℕ, zero, suc, ◌-◌, ◌<◌, ◌^◌, Bool, true, false, List, [], ◌∷◌, ◌++◌, length, replicate, cond, Option}
+use Rattle.std.proofs.Common.{Some, refl, ap, arith}
 use Rattle.std.specs.Prelude.{◌==◌}
 use Rattle.std.specs.Fmt.{decimal}
 use Rattle.std.specs.List.{list_all}
@@ -118,7 +119,8 @@ mode_joined : (clock r f k : ℕ × List ℕ) (h v : Five) (n : List ℕ × List
     → fields_to (decimal clock.0 ∷ five_words h (five_words v (decimal r.0 ∷ decimal f.0 ∷ decimal k.0 ∷ until 0 n.0 ∷ []))) n.1 ≡ bytes
 mode_joined clock r f k h v n bytes first across down rate flags kind name =
     let last : fields_to (decimal r.0 ∷ decimal f.0 ∷ decimal k.0 ∷ until 0 n.0 ∷ []) n.1 ≡ v.5 = rw (name, kind, flags) rate in
-    then_fields (decimal clock.0) (five_words h (five_words v (decimal r.0 ∷ decimal f.0 ∷ decimal k.0 ∷ until 0 n.0 ∷ []))) n.1 clock.1 bytes first
+    then_fields (decimal clock.0) (five_words h (five_words v (decimal r.0 ∷ decimal f.0 ∷ decimal k.0 ∷ until 0 n.0 ∷ []))) n.1 clock.1
+    bytes first
     (then_five h (five_words v (decimal r.0 ∷ decimal f.0 ∷ decimal k.0 ∷ until 0 n.0 ∷ [])) n.1 clock.1 across
     (then_five v (decimal r.0 ∷ decimal f.0 ∷ decimal k.0 ∷ until 0 n.0 ∷ []) n.1 h.5 down last))
 

@@ -23,7 +23,8 @@ pixels_spelt format zero bytes ps e = let m = map_some _ (end_at bytes) ps e in 
 pixels_spelt format (suc n) bytes ps e =
     from_bind (pixel_at format bytes) _ ps e (λ p first more.
     from_bind (pixels_at format n p.1) _ ps more (λ qs later more.
-    rw (← some_same _ ps more) (then_fields (pixel_word format p.0) (map (pixel_word format) qs) [] p.1 bytes (pixel_at_spelt format bytes p first) (pixels_spelt format n p.1 qs later))))
+    rw (← some_same _ ps more) (then_fields (pixel_word format p.0) (map (pixel_word format) qs) [] p.1 bytes
+    (pixel_at_spelt format bytes p first) (pixels_spelt format n p.1 qs later))))
 
 -- the words of a pattern behind its first are written as they were read
 abbrev Behind : List ℕ → Format → List ℕ → Pattern → Type 0
@@ -54,12 +55,14 @@ checker_spelt : (format : Format) (bytes : List ℕ) (pattern : Pattern) → che
 checker_spelt format bytes pattern e =
     let c = checker_parts format bytes pattern e in
     rw (← c.makes)
-    (checker_joined format c.p c.q c.n bytes (pixel_at_spelt format bytes c.p c.first) (pixel_at_spelt format c.p.1 c.q c.second) (dec_at_spelt 4096 c.q.1 c.n (omega arith) c.side) (end_spelt c.n.1 tt c.end))
+    (checker_joined format c.p c.q c.n bytes (pixel_at_spelt format bytes c.p c.first) (pixel_at_spelt format c.p.1 c.q c.second)
+    (dec_at_spelt 4096 c.q.1 c.n (omega arith) c.side) (end_spelt c.n.1 tt c.end))
 
 -- a ramp
 ramp_spelt : (format : Format) (bytes : List ℕ) (pattern : Pattern) → ramp_at bytes ≡ Some pattern
     → Behind (codes "ramp") format bytes pattern
-ramp_spelt format bytes pattern e = let m = map_some _ (end_at bytes) pattern e in rw (← m.makes) (ap (after (codes "ramp")) (end_spelt bytes m.value m.given))
+ramp_spelt format bytes pattern e = let m = map_some _ (end_at bytes) pattern e
+    in rw (← m.makes) (ap (after (codes "ramp")) (end_spelt bytes m.value m.given))
 
 -- a word for each pixel
 each_spelt : (count : ℕ) (format : Format) (bytes : List ℕ) (pattern : Pattern) → each_pixel_at count format bytes ≡ Some pattern
@@ -83,10 +86,13 @@ pattern_spelt width height format bytes p e = from_bind (field_at bytes) _ p e (
     elim (choice_some (bytes_eq f.0 (codes "solid")) _ _ p more) [
       | inl solid ↦ first_is (codes "solid") f.0 f.1 bytes _ (found f.0 (codes "solid") solid.0) front (solid_spelt format f.1 p solid.1)
       | inr more ↦ elim (choice_some (bytes_eq f.0 (codes "checker")) _ _ p more) [
-        | inl checker ↦ first_is (codes "checker") f.0 f.1 bytes _ (found f.0 (codes "checker") checker.0) front (checker_spelt format f.1 p checker.1)
+        | inl checker ↦ first_is (codes "checker") f.0 f.1 bytes _ (found f.0 (codes "checker") checker.0) front
+            (checker_spelt format f.1 p checker.1)
         | inr more ↦ elim (choice_some (bytes_eq f.0 (codes "ramp")) _ _ p more) [
           | inl ramp ↦ first_is (codes "ramp") f.0 f.1 bytes _ (found f.0 (codes "ramp") ramp.0) front (ramp_spelt format f.1 p ramp.1)
-          | inr more ↦ (let pixels = if_some (bytes_eq f.0 (codes "pixels")) _ p more in first_is (codes "pixels") f.0 f.1 bytes _ (found f.0 (codes "pixels") pixels.0) front (each_spelt (width * height) format f.1 p pixels.1))
+          | inr more ↦ (let pixels = if_some (bytes_eq f.0 (codes "pixels")) _ p more
+              in first_is (codes "pixels") f.0 f.1 bytes _ (found f.0 (codes "pixels") pixels.0) front
+              (each_spelt (width * height) format f.1 p pixels.1))
         ]
       ]
     ])

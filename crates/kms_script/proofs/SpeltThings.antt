@@ -5,7 +5,8 @@ use Rattle.std.specs.Fmt.{decimal}
 use Rattle.kms_model.specs.declared.objects.Format.{Format}
 use Rattle.kms_model.specs.declared.scripts.Command.{Command}
 use Rattle.kms_model.specs.declared.scripts.Pattern.{Pattern}
-use Rattle.kms_model.specs.Script.CommandLines.{Names, place, saying, making, label_alone, buffer_read, addfb_read, mode_read, blob_read, making_read, naming_read}
+use Rattle.kms_model.specs.Script.CommandLines.{Names, place, saying, making, label_alone, buffer_read, addfb_read, mode_read, blob_read}
+use Rattle.kms_model.specs.Script.CommandLines.{making_read, naming_read}
 use Rattle.kms_model.specs.Script.Grammar.{hex_bytes}
 use Rattle.kms_model.specs.Script.Words.{between, label_at}
 use Rattle.kms_model.specs.Script.Spelling.{name_word, blob_word, format_word, pattern_words, spelt_mode, command_words}
@@ -39,7 +40,8 @@ makes all names k bytes c label words first b known rest =
       begins = before_saying all label.0 names said;
       words = name_word all (place label.0 names) ∷ words;
       known = known;
-      fields = label_joined (name_word all (place label.0 names)) bytes label words (said_word all label.0 names said) (label_at_spelt bytes label first) rest;
+      fields = label_joined (name_word all (place label.0 names)) bytes label words (said_word all label.0 names said)
+          (label_at_spelt bytes label first) rest;
     }
 
 -- the size, the format and the pattern of a buffer
@@ -68,7 +70,8 @@ unfolding addfb_read
 addfb_reads all names bytes r e =
     from_bind (label_at bytes) _ r e (λ label first more.
     from_bind (label_alone label.1) _ r more (λ buffer last more.
-    rw (← some_same _ r more) (λ b. makes all names (codes "addfb") bytes _ label _ first (before_saying all buffer (making label.0 names) b) refl
+    rw (← some_same _ r more) (λ b. makes all names (codes "addfb") bytes _ label _ first
+    (before_saying all buffer (making label.0 names) b) refl
     (rw (said_word all buffer (making label.0 names) b) (label_alone_spelt label.1 buffer last)))))
 
 -- a mode
@@ -123,4 +126,5 @@ pub making_reads : (all : List (List ℕ)) (k : List ℕ) (f : ℕ → Command) 
 unfolding making_read
 making_reads all k f labels names bytes r e =
     from_bind (label_alone bytes) _ r e (λ label alone more.
-    rw (← some_same _ r more) (λ b. one_label all names k bytes (f (place label names)) label alone (making_says all label names b) (labels (place label names))))
+    rw (← some_same _ r more) (λ b. one_label all names k bytes (f (place label names)) label alone (making_says all label names b)
+    (labels (place label names))))

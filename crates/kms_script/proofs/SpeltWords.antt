@@ -1,5 +1,6 @@
 -- The words of formats, numbers with a sign, objects and properties are written as they were read.
-use Rattle.std.proofs.Common.{◌≡◌, ℕ, zero, suc, inl, inr, Bool, true, false, List, [], ◌∷◌, ◌++◌, cond, Option, Some, None, ℤ, pos, negsuc, neg_ℤ, refl, sym, ap, ◌∙◌, arith}
+use Rattle.std.proofs.Common.{◌≡◌, ℕ, zero, suc, inl, inr, Bool, true, false, List, [], ◌∷◌, ◌++◌, cond, Option, Some, None, ℤ, pos, negsuc}
+use Rattle.std.proofs.Common.{neg_ℤ, refl, sym, ap, ◌∙◌, arith}
 use Rattle.std.specs.Prelude.{◌==◌, ◌&&◌, codes, option_map, IfSome}
 use Rattle.std.specs.Fmt.{decimal, signed_decimal}
 use Rattle.std.specs.List.{list_all, list_any}
@@ -12,7 +13,8 @@ use Rattle.kms_model.specs.declared.objects.Format.TheVariants.{Xr24, Ar24, Rg16
 use Rattle.kms_model.specs.declared.objects.Kind.{Kind}
 use Rattle.kms_model.specs.declared.objects.Kind.TheVariants.{Crtc, Plane, Conn, Enc}
 use Rattle.kms_model.specs.Script.Grammar.{negative, int, format_named, indexed, object, known_property}
-use Rattle.kms_model.specs.Device.Properties.{Property, properties, property_id, property_named, is_in_profile, is_named, same_kind, name_of}
+use Rattle.kms_model.specs.Device.Properties.{Property, properties, property_id, property_named, is_in_profile, is_named, same_kind}
+use Rattle.kms_model.specs.Device.Properties.{name_of}
 use Rattle.kms_model.specs.Script.Words.{dec, strip}
 use Rattle.kms_model.proofs.PropertyTable.{find-list_all}
 use Rattle.kms_model.proofs.SetLemmas.{find-passes}
@@ -52,14 +54,16 @@ negative_step false (suc n) z is e = rw (← some_same (negsuc n) z e) refl
 negative_spelt : (z : ℤ) (digits : List ℕ) → negative digits ≡ Some z → signed_decimal z ≡ 45 ∷ digits
 negative_spelt z digits e =
     let b = bind_some (dec 9223372036854775808 digits) _ z e in
-    negative_step (b.value == 0) b.value z refl b.then ∙ ap (λ (ds : List ℕ). 45 ∷ ds) (dec_spelt 9223372036854775808 b.value digits (omega arith) b.given)
+    negative_step (b.value == 0) b.value z refl b.then ∙ ap (λ (ds : List ℕ). 45 ∷ ds)
+    (dec_spelt 9223372036854775808 b.value digits (omega arith) b.given)
 
 -- a number with a sign or without
 pub int_spelt : (z : ℤ) (word : List ℕ) → int word ≡ Some z → signed_decimal z ≡ word
 unfolding int
 int_spelt z word e = elim (or_some negative (strip (codes "-") word) (option_map pos (dec 18446744073709551615 word)) z e) [
   | inl b ↦ negative_spelt z b.value b.then ∙ strip_spelt (codes "-") word b.value b.given
-  | inr d ↦ (let m = map_some pos (dec 18446744073709551615 word) z d in rw (← m.makes) (dec_spelt 18446744073709551615 m.value word (omega arith) m.given))
+  | inr d ↦ (let m = map_some pos (dec 18446744073709551615 word) z d
+      in rw (← m.makes) (dec_spelt 18446744073709551615 m.value word (omega arith) m.given))
 ]
 
 -- the word of an object
@@ -70,7 +74,8 @@ object_word o = kind_name o.0 ++ decimal o.1
 kind_or : (kind : Kind) (o : Kind × ℕ) (word : List ℕ) (other : Option (Kind × ℕ)) → (other ≡ Some o → object_word o ≡ word)
     → option_map_or (indexed kind) (strip (kind_name kind) word) other ≡ Some o → object_word o ≡ word
 kind_or kind o word other more e = elim (or_some (indexed kind) (strip (kind_name kind) word) other o e) [
-  | inl b ↦ (let m = map_some _ (dec 255 b.value) o b.then in rw (← m.makes, dec_spelt 255 m.value b.value (omega arith) m.given) (strip_spelt (kind_name kind) word b.value b.given))
+  | inl b ↦ (let m = map_some _ (dec 255 b.value) o b.then
+      in rw (← m.makes, dec_spelt 255 m.value b.value (omega arith) m.given) (strip_spelt (kind_name kind) word b.value b.given))
   | inr there ↦ more there
 ]
 
@@ -96,13 +101,16 @@ row_spelt : (profile : ℕ) (kind : Kind) (name : List ℕ) (id : ℕ) (o : Opti
     → IfSome o (λ p. is_named profile kind name p ≡ true) → option_map (λ (p : Property). p.id) o ≡ Some id → id_word id ≡ name
 row_spelt profile kind name id None itself named e = absurd cc
 row_spelt profile kind name id (Some p) itself named e =
-    let both : (bytes_eq p.name name && is_in_profile profile p) ≡ true = (and_parts (list_any (same_kind kind) p.kinds) (bytes_eq p.name name && is_in_profile profile p) named).1 in
+    let both : (bytes_eq p.name name && is_in_profile profile p)
+    ≡ true = (and_parts (list_any (same_kind kind) p.kinds) (bytes_eq p.name name && is_in_profile profile p) named).1 in
     let is : bytes_eq p.name name ≡ true = (and_parts (bytes_eq p.name name) (is_in_profile profile p) both).0 in
     rw (← some_same p.id id e) (found (id_word p.id) p.name itself ∙ found p.name name is)
 
 -- the property of a kind of object
 id_spelt : (profile : ℕ) (kind : Kind) (name : List ℕ) (id : ℕ) → property_id profile kind name ≡ Some id → id_word id ≡ name
-id_spelt profile kind name id e = row_spelt profile kind name id (property_named profile kind name) (find-list_all names_itself (is_named profile kind name) properties all_name_themselves) (find-passes (is_named profile kind name) properties) e
+id_spelt profile kind name id e = row_spelt profile kind name id (property_named profile kind name)
+    (find-list_all names_itself (is_named profile kind name) properties all_name_themselves)
+    (find-passes (is_named profile kind name) properties) e
 
 -- the name of a property that is known
 pub property_spelt : (profile id : ℕ) (name : List ℕ) → known_property profile name ≡ Some id → id_word id ≡ name

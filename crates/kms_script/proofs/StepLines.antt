@@ -4,7 +4,8 @@ use Rattle.std.specs.Prelude.{codes, IfNone, IfSome}
 use Rattle.std.specs.Option.{ForSome}
 use Rattle.std.proofs.lemmas.List.{append_cancel_right}
 use Rattle.kms_model.specs.declared.replies.Step.{Step}
-use Rattle.kms_model.specs.declared.replies.Step.TheVariants.{Begin, Lock, BackOff, Relock, Refuse, Test, Swap, Make, Signal, Claim, Write, Flush, HwDone, Vblank, Cleanup, Read, Return, Stall}
+use Rattle.kms_model.specs.declared.replies.Step.TheVariants.{Begin, Lock, BackOff, Relock, Refuse, Test, Swap, Make, Signal, Claim, Write}
+use Rattle.kms_model.specs.declared.replies.Step.TheVariants.{Flush, HwDone, Vblank, Cleanup, Read, Return, Stall}
 use Rattle.kms_model.specs.Report.History.{step_line, step_words}
 use Rattle.kms_model.specs.Script.Schedules.{IsFitStep, IsSpeltOnce, step_read}
 use Rattle.kms_script.specs.Scheduled.{IsStepLine, index_in_step, step_text}
@@ -73,7 +74,8 @@ line_ended step = line-fields (codes "T") (step_words step)
 pub spelt_once : IsSpeltOnce
 spelt_once = record {
   one = λ bytes step e. ap (λ (bs : List ℕ). bs ++ 10 ∷ []) ((line_of_step bytes step e).text) ∙ sym (line_ended step);
-  back = λ bytes step fits e. read_of_line bytes step (record { fits = fits; text = append_cancel_right bytes (step_text step) (10 ∷ []) (e ∙ line_ended step) });
+  back = λ bytes step fits e. read_of_line bytes step
+      (record { fits = fits; text = append_cancel_right bytes (step_text step) (10 ∷ []) (e ∙ line_ended step) });
 }
 
 -- steps with one line are one step

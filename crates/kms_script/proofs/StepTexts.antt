@@ -8,7 +8,8 @@ use Rattle.std.proofs.lemmas.List.Folds.{list_all-append}
 use Rattle.kms_model.specs.declared.objects.Kind.{Kind}
 use Rattle.kms_model.specs.declared.objects.Kind.TheVariants.{Crtc, Plane, Conn, Enc}
 use Rattle.kms_model.specs.declared.replies.Step.{Step}
-use Rattle.kms_model.specs.declared.replies.Step.TheVariants.{Begin, Lock, BackOff, Relock, Refuse, Test, Swap, Make, Signal, Claim, Write, Flush, HwDone, Vblank, Cleanup, Read, Return, Stall}
+use Rattle.kms_model.specs.declared.replies.Step.TheVariants.{Begin, Lock, BackOff, Relock, Refuse, Test, Swap, Make, Signal, Claim, Write}
+use Rattle.kms_model.specs.declared.replies.Step.TheVariants.{Flush, HwDone, Vblank, Cleanup, Read, Return, Stall}
 use Rattle.kms_model.specs.Report.History.{named_object, step_line}
 use Rattle.kms_model.specs.Script.Grammar.{is_printable}
 use Rattle.kms_model.specs.Script.InputLines.{rows_of}
@@ -90,6 +91,7 @@ unfolding steps_in rows_of
 steps_are_read n [] fit = refl
 steps_are_read n (step ∷ h) fit =
     let later : List ℕ = flat_map step_line h in
-    let parted : step_line step ++ later ≡ step_text step ++ 10 ∷ later = ap (λ (bs : List ℕ). bs ++ later) (line_ended step) ∙ append_assoc (step_text step) (10 ∷ []) later in
+    let parted : step_line step ++ later ≡ step_text step ++ 10
+    ∷ later = ap (λ (bs : List ℕ). bs ++ later) (line_ended step) ∙ append_assoc (step_text step) (10 ∷ []) later in
     let rows = ap rows_of parted ∙ first_row (step_text step) later (text_plain step fit.0) in
     rw (rows, row_is_read n step fit.0, steps_are_read (n + 1) h fit.1) refl

@@ -8,10 +8,12 @@ use Rattle.std.proofs.lemmas.Bool.Decides.{nat_tests}
 use Rattle.kms_model.specs.declared.objects.Kind.{Kind}
 use Rattle.kms_model.specs.declared.objects.Kind.TheVariants.{Crtc, Plane, Conn, Enc}
 use Rattle.kms_model.specs.declared.replies.Step.{Step}
-use Rattle.kms_model.specs.declared.replies.Step.TheVariants.{Begin, Lock, BackOff, Relock, Refuse, Test, Swap, Make, Signal, Claim, Write, Flush, HwDone, Vblank, Cleanup, Read, Return, Stall}
+use Rattle.kms_model.specs.declared.replies.Step.TheVariants.{Begin, Lock, BackOff, Relock, Refuse, Test, Swap, Make, Signal, Claim, Write}
+use Rattle.kms_model.specs.declared.replies.Step.TheVariants.{Flush, HwDone, Vblank, Cleanup, Read, Return, Stall}
 use Rattle.kms_model.specs.Report.History.{named_object}
 use Rattle.kms_model.specs.Script.Grammar.{object}
-use Rattle.kms_model.specs.Script.Schedules.{IsFitIndex, IsFitNumber, IsFitStep, greatest_number, lone_step, numbered_step, object_at, step_of_word, step_on_object, step_read, step_with_object}
+use Rattle.kms_model.specs.Script.Schedules.{IsFitIndex, IsFitNumber, IsFitStep, greatest_number, lone_step, numbered_step, object_at}
+use Rattle.kms_model.specs.Script.Schedules.{step_of_word, step_on_object, step_read, step_with_object}
 use Rattle.kms_model.specs.Script.Words.{dec_at, field_at, from, is_digit, until}
 use Rattle.kms_words.specs.Printed.{fields}
 use Rattle.kms_script.specs.Scheduled.{step_text}

@@ -6,9 +6,11 @@ use Rattle.std.specs.Str.{bytes_eq}
 use Rattle.std.proofs.lemmas.Bool.{leb-true}
 use Rattle.kms_model.specs.declared.objects.Kind.{Kind}
 use Rattle.kms_model.specs.declared.replies.Step.{Step}
-use Rattle.kms_model.specs.declared.replies.Step.TheVariants.{Begin, Lock, BackOff, Relock, Refuse, Test, Swap, Make, Signal, Claim, Write, Flush, HwDone, Vblank, Cleanup, Read, Return, Stall}
+use Rattle.kms_model.specs.declared.replies.Step.TheVariants.{Begin, Lock, BackOff, Relock, Refuse, Test, Swap, Make, Signal, Claim, Write}
+use Rattle.kms_model.specs.declared.replies.Step.TheVariants.{Flush, HwDone, Vblank, Cleanup, Read, Return, Stall}
 use Rattle.kms_model.specs.Report.History.{named_object, step_words}
-use Rattle.kms_model.specs.Script.Schedules.{IsFitIndex, IsFitNumber, IsFitStep, greatest_number, lone_step, numbered_step, object_at, step_of_word, step_on_object, step_read, step_with_object}
+use Rattle.kms_model.specs.Script.Schedules.{IsFitIndex, IsFitNumber, IsFitStep, greatest_number, lone_step, numbered_step, object_at}
+use Rattle.kms_model.specs.Script.Schedules.{step_of_word, step_on_object, step_read, step_with_object}
 use Rattle.kms_model.specs.Script.Words.{dec_at, end_at, field_at, strip}
 use Rattle.kms_words.specs.Printed.{fields}
 use Rattle.kms_script.specs.Scheduled.{IsStepLine}
@@ -81,7 +83,8 @@ with_object_is word make fit are bytes step e =
       fits = fit n.0 o.0 o.1 (dec_at_fit greatest_number bytes n given) object.small;
       words = decimal n.0 ∷ named_object o.0 o.1 ∷ [];
       are = are n.0 o.0 o.1;
-      rest = first_field (decimal n.0) n.1 bytes (named_object o.0 o.1 ∷ []) (dec_at_spelt greatest_number bytes n (omega arith) given) object.text;
+      rest = first_field (decimal n.0) n.1 bytes (named_object o.0 o.1 ∷ []) (dec_at_spelt greatest_number bytes n (omega arith) given)
+          object.text;
     }))
 
 on_object_is : (word : List ℕ) (make : Kind → ℕ → Step) → ((kind : Kind) (index : ℕ) → IsFitIndex index → IsFitStep (make kind index))
@@ -122,7 +125,8 @@ step_is : (word bytes : List ℕ) (step : Step) → step_of_word word bytes ≡ 
 unfolding step_of_word
 step_is word bytes step e =
     by_word word (codes "begin") bytes step _ _ (λ h. numbered_is (codes "begin") (λ n. Begin n) (λ n f. f) (λ n. refl) bytes step h)
-    (by_word word (codes "lock") bytes step _ _ (λ h. with_object_is (codes "lock") (λ n kind index. Lock n kind index) (λ n kind index f g. (f, g)) (λ n kind index. refl) bytes step h)
+    (by_word word (codes "lock") bytes step _ _ (λ h. with_object_is (codes "lock") (λ n kind index. Lock n kind index)
+    (λ n kind index f g. (f, g)) (λ n kind index. refl) bytes step h)
     (by_word word (codes "backoff") bytes step _ _ (λ h. numbered_is (codes "backoff") (λ n. BackOff n) (λ n f. f) (λ n. refl) bytes step h)
     (by_word word (codes "relock") bytes step _ _ (λ h. numbered_is (codes "relock") (λ n. Relock n) (λ n f. f) (λ n. refl) bytes step h)
     (by_word word (codes "refuse") bytes step _ _ (λ h. numbered_is (codes "refuse") (λ n. Refuse n) (λ n f. f) (λ n. refl) bytes step h)
@@ -131,14 +135,18 @@ step_is word bytes step e =
     (by_word word (codes "make") bytes step _ _ (λ h. numbered_is (codes "make") (λ n. Make n) (λ n f. f) (λ n. refl) bytes step h)
     (by_word word (codes "signal") bytes step _ _ (λ h. numbered_is (codes "signal") (λ n. Signal n) (λ n f. f) (λ n. refl) bytes step h)
     (by_word word (codes "claim") bytes step _ _ (λ h. numbered_is (codes "claim") (λ n. Claim n) (λ n f. f) (λ n. refl) bytes step h)
-    (by_word word (codes "write") bytes step _ _ (λ h. with_object_is (codes "write") (λ n kind index. Write n kind index) (λ n kind index f g. (f, g)) (λ n kind index. refl) bytes step h)
-    (by_word word (codes "flush") bytes step _ _ (λ h. with_object_is (codes "flush") (λ n kind index. Flush n kind index) (λ n kind index f g. (f, g)) (λ n kind index. refl) bytes step h)
+    (by_word word (codes "write") bytes step _ _ (λ h. with_object_is (codes "write") (λ n kind index. Write n kind index)
+    (λ n kind index f g. (f, g)) (λ n kind index. refl) bytes step h)
+    (by_word word (codes "flush") bytes step _ _ (λ h. with_object_is (codes "flush") (λ n kind index. Flush n kind index)
+    (λ n kind index f g. (f, g)) (λ n kind index. refl) bytes step h)
     (by_word word (codes "hwdone") bytes step _ _ (λ h. numbered_is (codes "hwdone") (λ n. HwDone n) (λ n f. f) (λ n. refl) bytes step h)
-    (by_word word (codes "vblank") bytes step _ _ (λ h. on_object_is (codes "vblank") (λ kind index. Vblank kind index) (λ kind index f. f) (λ kind index. refl) bytes step h)
+    (by_word word (codes "vblank") bytes step _ _
+    (λ h. on_object_is (codes "vblank") (λ kind index. Vblank kind index) (λ kind index f. f) (λ kind index. refl) bytes step h)
     (by_word word (codes "cleanup") bytes step _ _ (λ h. numbered_is (codes "cleanup") (λ n. Cleanup n) (λ n f. f) (λ n. refl) bytes step h)
     (by_word word (codes "read") bytes step _ _ (λ h. numbered_is (codes "read") (λ n. Read n) (λ n f. f) (λ n. refl) bytes step h)
     (by_word word (codes "return") bytes step _ _ (λ h. numbered_is (codes "return") (λ n. Return n) (λ n f. f) (λ n. refl) bytes step h)
-    (by_word word (codes "stall") bytes step _ None (λ h. lone_is (codes "stall") Stall tt refl bytes step h) (nothing_read step)))))))))))))))))) e
+    (by_word word (codes "stall") bytes step _ None (λ h. lone_is (codes "stall") Stall tt refl bytes step h)
+    (nothing_read step)))))))))))))))))) e
 
 -- the words of a line
 joined : (bytes fields_of word rest : List ℕ) (words all : List (List ℕ)) → all ≡ word ∷ words → fields words ≡ rest
@@ -154,5 +162,6 @@ line_of_step bytes step e =
     let made = step_is f.0 f.1 step is in
     record {
       fits = made.fits;
-      text = joined bytes behind f.0 f.1 made.words (step_words step) made.are made.rest (field_spelt behind f there) (strip_spelt (codes "T") bytes behind given);
+      text = joined bytes behind f.0 f.1 made.words (step_words step) made.are made.rest (field_spelt behind f there)
+          (strip_spelt (codes "T") bytes behind given);
     }))

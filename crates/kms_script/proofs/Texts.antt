@@ -53,4 +53,5 @@ version_words s = codes "kms" ∷ decimal s.version ∷ []
 pub script_text : (s : Script) (first second third : List ℕ) → first ≡ line (version_words s)
     → second ≡ first ++ text_of (device_lines s.topology) → third ≡ second ++ clients_text s → third ≡ spelling s
 script_text s first second third version device clients =
-    clients ∙ rw (device, version, ← lines-flat (client_lines s.names) s.clients) (sym (flat_map-append line (version_words s ∷ device_lines s.topology) (flat_map (client_lines s.names) s.clients)))
+    clients ∙ rw (device, version, ← lines-flat (client_lines s.names) s.clients)
+    (sym (flat_map-append line (version_words s ∷ device_lines s.topology) (flat_map (client_lines s.names) s.clients)))

@@ -1,12 +1,14 @@
 -- Lines that spell a script are read, where they are no more bytes than a script may have.
-use Rattle.std.proofs.Common.{◌≡◌, ℕ, ◌+◌, ◌≤◌, Bool, true, false, List, [], ◌∷◌, length, length-append, cond, Some, None, Ok, Err, refl, ap, arith}
+use Rattle.std.proofs.Common.{◌≡◌, ℕ, ◌+◌, ◌≤◌, Bool, true, false, List, [], ◌∷◌, length, length-append, cond, Some, None, Ok, Err, refl}
+use Rattle.std.proofs.Common.{ap, arith}
 use Rattle.std.specs.Prelude.{Result, not, nat_lt}
 use Rattle.std.specs.List.{flat_map, list_all}
 use Rattle.std.proofs.lemmas.Bool.{le-ltb}
 use Rattle.kms_model.specs.declared.scripts.Why.TheVariants.{Bytes, Cut, Limit}
 use Rattle.kms_model.specs.Script.Grammar.{is_printable}
 use Rattle.kms_model.specs.Script.InputLines.{Fault, Row}
-use Rattle.kms_model.specs.Script.WholeInput.{Draft, Lined, is_nil, script_line, script_limit, sized, line_after, lines_after, or_fault, missing_line}
+use Rattle.kms_model.specs.Script.WholeInput.{Draft, Lined, is_nil, script_line, script_limit, sized, line_after, lines_after, or_fault}
+use Rattle.kms_model.specs.Script.WholeInput.{missing_line}
 use Rattle.kms_model.specs.Script.Spelling.{spelt_line, spelt_lines}
 use Rattle.kms_script.proofs.Accepted.{unless_ok, on_from, ok_same}
 use Rattle.kms_script.proofs.Inverted.{bind_some}
@@ -36,7 +38,8 @@ line_is_spelt m d next row e =
     let bytes = unless_ok (not (list_all is_printable row.text)) Bytes _ next e in
     let cut = unless_ok (not row.is_ended) Cut _ next bytes.1 in
     let s = is_sized (length row.text + 1) (script_line d row.text) next cut.1 in
-    rw (on_from (list_all is_printable row.text) bytes.0, on_from row.is_ended cut.0, line_same m d row.text, s.is) (ap (λ (x : Draft). Some (resized m x)) s.counts)
+    rw (on_from (list_all is_printable row.text) bytes.0, on_from row.is_ended cut.0, line_same m d row.text, s.is)
+    (ap (λ (x : Draft). Some (resized m x)) s.counts)
 
 -- the draft behind a line, and what followed
 pub record Unfaulted {A : Type 0} (r : Lined) (f : Draft → Result A Fault) (x : A) : Type 0 where
@@ -94,4 +97,5 @@ spelt_is_read size n d last (row ∷ rows) e le =
     let b = bind_some (spelt_line d row) _ last e in
     let after : ℕ = size + (length row.text + 1) in
     let same = bytes_more row rows size in
-    rw (spelt_line_is_read size d b.value row b.given (omega (arith, same)), ← same) (spelt_is_read after (n + 1) b.value last rows b.then (omega (arith, same)))
+    rw (spelt_line_is_read size d b.value row b.given (omega (arith, same)), ← same)
+    (spelt_is_read after (n + 1) b.value last rows b.then (omega (arith, same)))

@@ -1,5 +1,6 @@
 -- The words of an assignment are read as they were written, with the numbers that its names have then.
-use Rattle.std.proofs.Common.{◌≡◌, ℕ, zero, suc, ◌+◌, ◌<◌, ◌≤◌, Bool, true, false, not, List, [], ◌∷◌, ◌++◌, codes, cond, map, Option, Some, None, ℤ, pos, negsuc, refl, sym, ap, subst, ◌∙◌, arith, length}
+use Rattle.std.proofs.Common.{◌≡◌, ℕ, zero, suc, ◌+◌, ◌<◌, ◌≤◌, Bool, true, false, not, List, [], ◌∷◌, ◌++◌, codes, cond, map, Option, Some}
+use Rattle.std.proofs.Common.{None, ℤ, pos, negsuc, refl, sym, ap, subst, ◌∙◌, arith, length}
 use Rattle.std.specs.Prelude.{◌&&◌, ◌==◌, is_some, int_le, nat_le, find}
 use Rattle.std.specs.Fmt.{decimal, signed_decimal}
 use Rattle.std.specs.List.{AllByRecursion, list_all, position_or_len}
@@ -19,7 +20,8 @@ use Rattle.kms_model.specs.declared.scripts.Value.TheVariants as value
 use Rattle.kms_model.specs.Device.Properties.{Property, has_id, is_in_profile, properties, property_in}
 use Rattle.kms_model.specs.Legacy.Translated.{renumbered}
 use Rattle.kms_model.specs.Report.Replies.{kind_name}
-use Rattle.kms_model.specs.Script.CommandLines.{Name, Names, assign_read, assign_words, assigns_read, place, property_read, said, saying, value_read, was_made, words_in}
+use Rattle.kms_model.specs.Script.CommandLines.{Name, Names, assign_read, assign_words, assigns_read, place, property_read, said, saying}
+use Rattle.kms_model.specs.Script.CommandLines.{value_read, was_made, words_in}
 use Rattle.kms_model.specs.Script.Grammar.{int, is_property_byte, is_property_word, known_property, object}
 use Rattle.kms_model.specs.Script.Spelling.{assign_word, name_word, property_word, value_word}
 use Rattle.kms_model.specs.Script.WellFormed.{is_assign_in, is_integer, is_property_in, is_value_in}

@@ -12,7 +12,17 @@ use Rattle.kms_script.specs.declared.stop.Stop.{Stop}
 use Rattle.kms_script.specs.declared.stop.Stop.TheVariants as stops
 
 abbrev pub draft_in : Held → Draft
-draft_in h = record { head = h.head; crtcs = h.crtcs; planes = h.planes; conns = h.conns; names = h.names.names; clients = h.clients; has_client = h.has_client; commands = h.commands; size = h.size }
+draft_in h = record {
+  head = h.head;
+  crtcs = h.crtcs;
+  planes = h.planes;
+  conns = h.conns;
+  names = h.names.names;
+  clients = h.clients;
+  has_client = h.has_client;
+  commands = h.commands;
+  size = h.size;
+}
 
 abbrev pub row_in : Seen → Row
 row_in r = record { text = r.text.now; is_ended = r.is_ended }

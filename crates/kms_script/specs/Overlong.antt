@@ -1,5 +1,6 @@
 -- Atomic lines with more assignments than a request may have: what their fault needs.
-use Rattle.std.specs.Prelude.{◌≡◌, ℕ, ◌+◌, Bool, true, false, ◌==◌, ◌++◌, nat_lt, List, [], ◌∷◌, filter, length, Option, Some, None, option_map, if◌then◌else◌, codes}
+use Rattle.std.specs.Prelude.{◌≡◌, ℕ, ◌+◌, Bool, true, false, ◌==◌, ◌++◌, nat_lt, List, [], ◌∷◌, filter, length, Option, Some, None}
+use Rattle.std.specs.Prelude.{option_map, if◌then◌else◌, codes}
 use Rattle.std.specs.Option.{option_map_or}
 use Rattle.kms_model.specs.Script.CommandLines.{assign_words}
 use Rattle.kms_model.specs.Script.Grammar.{hex_at, int, field_words}

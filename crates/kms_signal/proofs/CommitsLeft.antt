@@ -7,7 +7,8 @@ use Rattle.kms_model.specs.declared.replies.Event.{Event}
 use Rattle.kms_model.specs.declared.replies.Reply.{Reply}
 use Rattle.kms_model.specs.declared.replies.Reply.TheVariants as reply
 use Rattle.kms_model.specs.declared.replies.Step.{Step}
-use Rattle.kms_model.specs.declared.replies.Step.TheVariants.{Begin, Lock, BackOff, Relock, Refuse, Test, Swap, Make, Signal, Read, Return, Stall}
+use Rattle.kms_model.specs.declared.replies.Step.TheVariants.{Begin, Lock, BackOff, Relock, Refuse, Test, Swap, Make, Signal, Read, Return}
+use Rattle.kms_model.specs.declared.replies.Step.TheVariants.{Stall}
 use Rattle.kms_model.specs.declared.runs.Latch.{Latch}
 use Rattle.kms_model.specs.declared.scripts.Command.{Command}
 use Rattle.kms_model.specs.declared.scripts.Command.TheVariants as command
@@ -17,7 +18,8 @@ use Rattle.kms_model.specs.Device.Execution.{execute}
 use Rattle.kms_model.specs.Device.Objects.{object_id}
 use Rattle.kms_model.specs.Device.World.{thing_labelled}
 use Rattle.kms_model.specs.Machine.Commits.{asks_event, id_of_thing, out_fence_of}
-use Rattle.kms_model.specs.Machine.Effects.{answers, delivers, delivers_if, fence_signalled, joins_if, latches, latches_picture, locked, made_thing, next, reads, refused, relocked, signalled_by, signals, swapped_state}
+use Rattle.kms_model.specs.Machine.Effects.{answers, delivers, delivers_if, fence_signalled, joins_if, latches, latches_picture, locked}
+use Rattle.kms_model.specs.Machine.Effects.{made_thing, next, reads, refused, relocked, signalled_by, signals, swapped_state}
 use Rattle.kms_model.specs.Machine.State.{Commit, Machine, Marks, command_at, doing_at, holder_at, place_at, request_at, unread_at}
 use Rattle.kms_model.specs.Machine.Steps.{contended}
 use Rattle.kms_model.specs.Request.Flags.{is_nonblock, wants_event}
@@ -63,7 +65,8 @@ module _ (P : List Commit → Marks → List Latch → Type 0) where
 
   signal_leaves : (t : Topology) (m : Machine) (client : ℕ) (c : Option Command) → Of m → Of (signalled_by t m client c)
   signal_leaves t m client None of = of
-  signal_leaves t m client (Some c) of = fence_leaves (answers m client (execute t m.device.world client c).reply) c (execute t m.device.world client c).reply of
+  signal_leaves t m client (Some c) of = fence_leaves (answers m client (execute t m.device.world client c).reply) c
+      (execute t m.device.world client c).reply of
 
   read_leaves : (m : Machine) (client : ℕ) (events : List Event) → Of m → Of (reads m client events)
   read_leaves m client [] of = of
@@ -86,7 +89,8 @@ module _ (P : List Commit → Marks → List Latch → Type 0) where
 
   -- a swap leaves the marks of other commits, and adds its own
   pub swap_adds : (s : Script) (m : Machine) (client : ℕ) (r : Request) → request_at s m client ≡ Some r
-      → P (record { client = client; command = (place_at m client).command; request = r; world = m.device.world } ∷ m.device.commits) m.device.marks m.records.latches → Of (next s m (Swap client))
+      → P (record { client = client; command = (place_at m client).command; request = r; world = m.device.world } ∷ m.device.commits)
+      m.device.marks m.records.latches → Of (next s m (Swap client))
   unfolding next swapped_state
   swap_adds s m client r is now =
       rw is (elim (cases_Bool (wants_event r.flags)) [
@@ -99,4 +103,5 @@ module _ (P : List Commit → Marks → List Latch → Type 0) where
   unfolding latches
   latch_leaves t m k crtc count now =
       signals_leave (delivers_if t (latches_picture t m k crtc count) k crtc count) (out_fence_of t m.device.commits k crtc)
-      (either (asks_event t m.device.commits k) (delivers t (latches_picture t m k crtc count) k crtc count) (latches_picture t m k crtc count) now now)
+      (either (asks_event t m.device.commits k) (delivers t (latches_picture t m k crtc count) k crtc count)
+      (latches_picture t m k crtc count) now now)

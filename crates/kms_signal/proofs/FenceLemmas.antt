@@ -22,12 +22,14 @@ true_there None other holds = cc
 is_signalled_now : (fences : FenceSet) (id : ℕ) → is_made fences id ≡ true → is_signalled (with_signal fences id) id ≡ true
 is_signalled_now fences id made = rw (value_same fences.slots id true made) refl
 
-same_of_other : (fences : FenceSet) (id other : ℕ) → (id == other) ≡ false → is_signalled (with_signal fences id) other ≡ is_signalled fences other
+same_of_other : (fences : FenceSet) (id other : ℕ) → (id == other) ≡ false → is_signalled (with_signal fences id) other
+    ≡ is_signalled fences other
 same_of_other fences id other apart = ap or_not (value_other fences.slots id other true apart)
 
 made_absent : (fences : FenceSet) (id : ℕ) → is_made fences id ≡ false → is_made (with_signal fences id) id ≡ false
 made_absent fences id absent = is_absent fences.slots id absent where
-  is_absent : (slots : List (Slot Bool)) (id : ℕ) → is_some (value_with_id slots id) ≡ false → is_some (value_with_id (with_value slots id true) id) ≡ false
+  is_absent : (slots : List (Slot Bool)) (id : ℕ) → is_some (value_with_id slots id) ≡ false
+      → is_some (value_with_id (with_value slots id true) id) ≡ false
   is_absent [] id absent = refl
   is_absent (s ∷ slots) id absent =
       elim (eqb_tells s.id id) [
@@ -59,14 +61,17 @@ signals fences id = record {
 pub signal_stays : (fences : FenceSet) (id : ℕ) → StaySignalled fences (with_signal fences id)
 signal_stays fences id = λ other holds.
     elim (eqb_tells id other) [
-      | inl same ↦ rw (← same.1) (is_signalled_now fences id (rw (← same.1) at (signalled_is_there (value_with_id fences.slots other) holds)))
+      | inl same ↦ rw (← same.1) (is_signalled_now fences id
+          (rw (← same.1) at (signalled_is_there (value_with_id fences.slots other) holds)))
       | inr different ↦ same_of_other fences id other different.0 ∙ holds
     ]
 
 pub make_stays : (old new : FenceSet) (id : ℕ) → new.slots ≡ old.slots ++ slot id false ∷ [] → StaySignalled old new
-make_stays old new id is = λ other holds. rw (is, value_pushed old.slots id other false) (true_there (value_with_id old.slots other) (value_with_id (slot id false ∷ []) other) holds)
+make_stays old new id is = λ other holds. rw (is, value_pushed old.slots id other false)
+    (true_there (value_with_id old.slots other) (value_with_id (slot id false ∷ []) other) holds)
 
 -- the same over a call's answer
-pub make_stays_either : {E : Type 0} (r : Result (Unit {0}) E) (old new : FenceSet) (id : ℕ) → OnOk r (new.slots ≡ old.slots ++ slot id false ∷ []) → OnErr r (new ≡ old) → StaySignalled old new
+pub make_stays_either : {E : Type 0} (r : Result (Unit {0}) E) (old new : FenceSet) (id : ℕ)
+    → OnOk r (new.slots ≡ old.slots ++ slot id false ∷ []) → OnErr r (new ≡ old) → StaySignalled old new
 make_stays_either (Ok done) old new id ok err = make_stays old new id ok
 make_stays_either (Err e) old new id ok err = λ other holds. rw err holds

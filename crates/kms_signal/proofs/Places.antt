@@ -7,7 +7,8 @@ use Rattle.kms_model.proofs.TableLemmas.{FoundAt, found, value-present, with_val
 use Rattle.kms_signal.specs.Rooms.{Rooms}
 
 -- a value at the place that was found for its id: what it is, and what is left once it is another or is taken out
-module _ {T : Type 0} (slice slots : List (Slot T)) (i id : ℕ) (is : slice ≡ slots) (rising : IsRising slots) (within : i < length slice) (same : get_or (slot_ids slice) i 0 ≡ id) where
+module _ {T : Type 0} (slice slots : List (Slot T)) (i id : ℕ) (is : slice ≡ slots) (rising : IsRising slots) (within : i < length slice)
+    (same : get_or (slot_ids slice) i 0 ≡ id) where
   at : FoundAt slots i id
   at = found slice slots i id is rising within same
 
@@ -21,5 +22,6 @@ module _ {T : Type 0} (slice slots : List (Slot T)) (i id : ℕ) (is : slice ≡
   removed_there = without_id-present slots i id at.rising at.within at.same
 
 -- equal slots with equal room
-pub in_room : {T : Type 0} {slots others : List (Slot T)} {room : ℕ} → slots ≡ others → (let a : Rooms T = record { slots = slots; room = room } in a) ≡ record { slots = others; room = room }
+pub in_room : {T : Type 0} {slots others : List (Slot T)} {room : ℕ} → slots ≡ others
+    → (let a : Rooms T = record { slots = slots; room = room } in a) ≡ record { slots = others; room = room }
 in_room {T} {slots} {others} {room} same = ap (λ (s : List (Slot T)). (let r : Rooms T = record { slots = s; room = room } in r)) same

@@ -8,7 +8,8 @@ use Rattle.kms_model.specs.Firsts.{or_else}
 use Rattle.kms_model.specs.Things.Tables.{slot, AreBelow, value_with_id, with_value, without_id, put_in}
 
 -- another value under an id
-pub value_other : {T : Type 0} (slots : List (Slot T)) (id other : ℕ) (v : T) → (id == other) ≡ false → value_with_id (with_value slots id v) other ≡ value_with_id slots other
+pub value_other : {T : Type 0} (slots : List (Slot T)) (id other : ℕ) (v : T) → (id == other) ≡ false
+    → value_with_id (with_value slots id v) other ≡ value_with_id slots other
 value_other [] id other v apart = refl
 value_other (s ∷ slots) id other v apart =
     elim (eqb_tells s.id id) [
@@ -16,7 +17,8 @@ value_other (s ∷ slots) id other v apart =
       | inr different ↦ rw (different.0, value_other slots id other v apart) refl
     ]
 
-pub value_same : {T : Type 0} (slots : List (Slot T)) (id : ℕ) (v : T) → is_some (value_with_id slots id) ≡ true → value_with_id (with_value slots id v) id ≡ Some v
+pub value_same : {T : Type 0} (slots : List (Slot T)) (id : ℕ) (v : T) → is_some (value_with_id slots id) ≡ true
+    → value_with_id (with_value slots id v) id ≡ Some v
 value_same [] id v there = cc
 value_same (s ∷ slots) id v there =
     elim (eqb_tells s.id id) [
@@ -25,11 +27,13 @@ value_same (s ∷ slots) id v there =
     ]
 
 -- one value more, behind the others
-pub value_pushed : {T : Type 0} (slots : List (Slot T)) (id other : ℕ) (v : T) → value_with_id (slots ++ slot id v ∷ []) other ≡ or_else (value_with_id slots other) (value_with_id (slot id v ∷ []) other)
+pub value_pushed : {T : Type 0} (slots : List (Slot T)) (id other : ℕ) (v : T) → value_with_id (slots ++ slot id v ∷ []) other
+    ≡ or_else (value_with_id slots other) (value_with_id (slot id v ∷ []) other)
 value_pushed [] id other v = refl
 value_pushed {T} (s ∷ slots) id other v =
     let last : Option T = value_with_id (slot id v ∷ []) other in
-    elim (s.id == other) as (λ b. cond b (Some s.value) (value_with_id (slots ++ slot id v ∷ []) other) ≡ or_else (cond b (Some s.value) (value_with_id slots other)) last) [
+    elim (s.id == other) as (λ b. cond b (Some s.value) (value_with_id (slots ++ slot id v ∷ []) other)
+    ≡ or_else (cond b (Some s.value) (value_with_id slots other)) last) [
       | true ↦ refl
       | false ↦ value_pushed slots id other v
     ]
@@ -43,7 +47,8 @@ value_removed (s ∷ slots) id =
       | inr different ↦ rw (different.0, different.0) (value_removed slots id)
     ]
 
-pub value_left : {T : Type 0} (slots : List (Slot T)) (id other : ℕ) → (id == other) ≡ false → value_with_id (without_id slots id) other ≡ value_with_id slots other
+pub value_left : {T : Type 0} (slots : List (Slot T)) (id other : ℕ) → (id == other) ≡ false → value_with_id (without_id slots id) other
+    ≡ value_with_id slots other
 value_left [] id other apart = refl
 value_left (s ∷ slots) id other apart =
     elim (eqb_tells s.id id) [
@@ -68,14 +73,17 @@ pub below-with_value : {T : Type 0} (slots : List (Slot T)) (n id : ℕ) (v : T)
 below-with_value [] n id v below = tt
 below-with_value (s ∷ slots) n id v below = (put_below s n id v below.0, below-with_value slots n id v below.1)
 
-kept_below : {T : Type 0} (s : Slot T) (rest : List (Slot T)) (n : ℕ) (b : Bool) → s.id < n → AreBelow n rest → AreBelow n (cond b (s ∷ rest) rest)
+kept_below : {T : Type 0} (s : Slot T) (rest : List (Slot T)) (n : ℕ) (b : Bool) → s.id < n → AreBelow n rest
+    → AreBelow n (cond b (s ∷ rest) rest)
 kept_below s rest n true here below = (here, below)
 kept_below s rest n false here below = below
 
 pub below-without_id : {T : Type 0} (slots : List (Slot T)) (n id : ℕ) → AreBelow n slots → AreBelow n (without_id slots id)
 below-without_id [] n id below = tt
-below-without_id (s ∷ slots) n id below = kept_below s (without_id slots id) n (not (s.id == id)) below.0 (below-without_id slots n id below.1)
+below-without_id (s ∷ slots) n id below = kept_below s (without_id slots id) n (not (s.id == id)) below.0
+    (below-without_id slots n id below.1)
 
-pub below-push : {T : Type 0} (slots : List (Slot T)) (n m id : ℕ) (v : T) → AreBelow n slots → n ≤ m → id < m → AreBelow m (slots ++ slot id v ∷ [])
+pub below-push : {T : Type 0} (slots : List (Slot T)) (n m id : ℕ) (v : T) → AreBelow n slots → n ≤ m → id < m
+    → AreBelow m (slots ++ slot id v ∷ [])
 below-push [] n m id v below up here = (here, tt)
 below-push (s ∷ slots) n m id v below up here = (omega (arith, below.0), below-push slots n m id v below.1 up here)

@@ -2,7 +2,8 @@
 use Rattle.std.proofs.Common.{◌≡◌, List, [], ◌∷◌, ◌++◌, refl, sym, ap, ◌∙◌, append_assoc}
 use Rattle.std.proofs.lemmas.List.{append-nil}
 use Rattle.kms_model.specs.declared.replies.Event.{Event}
-use Rattle.kms_signal.specs.Queues.{Queue, Call, Reserve, Deliver, Read, reserves, delivers, after_read, after_read_of, after_all, delivered_by, first_of, read_by}
+use Rattle.kms_signal.specs.Queues.{Queue, Call, Reserve, Deliver, Read, reserves, delivers, after_read, after_read_of, after_all}
+use Rattle.kms_signal.specs.Queues.{delivered_by, first_of, read_by}
 
 -- what a read takes and what it leaves is what was unread
 split : (q : Queue) (unread : List Event) → q.unread ≡ unread → first_of unread ++ (after_read_of q unread).unread ≡ unread

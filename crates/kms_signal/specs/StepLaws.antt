@@ -115,9 +115,11 @@ pub record LeavesSignals (old new : Machine) : Type 0 where
 
 -- what a latch of a commit at a CRTC makes, with the count
 pub record LatchesSignals (t : Topology) (old new : Machine) (k crtc count : ℕ) : Type 0 where
-  pub fences : (fences : FenceSet) → AreFencesOf fences old.device.signalled → AreFencesOf (latched_fences t old k crtc fences) new.device.signalled
+  pub fences : (fences : FenceSet) → AreFencesOf fences old.device.signalled
+      → AreFencesOf (latched_fences t old k crtc fences) new.device.signalled
   pub queue :
-      (q : Queue) → IsQueueOf q old.events (client_of t old k) → IsQueueOf (latched_queue t old k crtc count q) new.events (client_of t old k)
+      (q : Queue) → IsQueueOf q old.events (client_of t old k)
+      → IsQueueOf (latched_queue t old k crtc count q) new.events (client_of t old k)
   pub others :
       (q : Queue) (other : ℕ) → (client_of t old k == other) ≡ false → IsQueueOf q old.events other → IsQueueOf q new.events other
 

@@ -1,5 +1,6 @@
 -- Replies that enter no journal: each is the device's at the end of the journal so far, or a late refusal, or tells of events.
-use Rattle.std.proofs.Common.{◌≡◌, ℕ, ◌+◌, ◌*◌, ◌%◌, Bool, true, false, not, ◌&&◌, ◌||◌, ◌==◌, List, length, Option, Some, None, refl, sym, ap, ◌∙◌, subst, arith, inl, inr, ◌⊎◌, ⊎_elim}
+use Rattle.std.proofs.Common.{◌≡◌, ℕ, ◌+◌, ◌*◌, ◌%◌, Bool, true, false, not, ◌&&◌, ◌||◌, ◌==◌, List, length, Option, Some, None, refl, sym}
+use Rattle.std.proofs.Common.{ap, ◌∙◌, subst, arith, inl, inr, ◌⊎◌, ⊎_elim}
 use Rattle.std.specs.Prelude.{is_none, is_some, nat_le, if◌then◌else◌}
 use Rattle.std.proofs.lemmas.Bool.{and_from, and_parts, cond-false, cond-true, eq-eqb, false≢true, le-leb, not-true, or_cases}
 use Rattle.std.proofs.lemmas.Nat.{mod-mul-add}
@@ -15,7 +16,8 @@ use Rattle.kms_model.specs.Device.Serial.{Entry, is_accepted, serial}
 use Rattle.kms_model.specs.Machine.Commits.{has_number, lockable, previous}
 use Rattle.kms_model.specs.Machine.Effects.{busy_reply, commit_numbered, refusal_reply}
 use Rattle.kms_model.specs.Machine.State.{Commit, Machine, has_value, reserved_at, unread_at}
-use Rattle.kms_model.specs.Machine.Steps.{first_pending, holds_touched, is_busy, is_making, is_pending, is_refused_late, is_signal, is_wait, lacks_space, may_refuse, may_test, space_used}
+use Rattle.kms_model.specs.Machine.Steps.{first_pending, holds_touched, is_busy, is_making, is_pending, is_refused_late, is_signal, is_wait}
+use Rattle.kms_model.specs.Machine.Steps.{lacks_space, may_refuse, may_test, space_used}
 use Rattle.kms_model.specs.Report.RightAnswers.{commits_of, is_refused_late_at, is_told, last_touch, may_be_refused_late}
 use Rattle.kms_model.specs.Request.Flags.{is_nonblock, is_test, wants_event}
 use Rattle.kms_model.specs.Request.Touched.{touches}

@@ -1,6 +1,7 @@
 -- How the replies and the journal of a history came, step by step: each reply is the device's at the end of the journal so far, and
 -- enters it where it is accepted.
-use Rattle.std.proofs.Common.{◌≡◌, ℕ, suc, ◌+◌, ◌<◌, Bool, true, false, List, [], ◌∷◌, length, Option, Some, refl, sym, ap, ◌∙◌, subst, arith, inl, inr, ◌⊎◌}
+use Rattle.std.proofs.Common.{◌≡◌, ℕ, suc, ◌+◌, ◌<◌, Bool, true, false, List, [], ◌∷◌, length, Option, Some, refl, sym, ap, ◌∙◌, subst}
+use Rattle.std.proofs.Common.{arith, inl, inr, ◌⊎◌}
 use Rattle.std.specs.Prelude.{not, reverse}
 use Rattle.std.proofs.lemmas.Bool.{and_parts, not-true}
 use Rattle.kms_model.specs.declared.replies.Answered.{Answered}
@@ -26,7 +27,8 @@ use Rattle.kms_laws.proofs.Fitting.{idle-busy, taking-busy}
 use Rattle.kms_laws.proofs.SmallNumbers.{Counted, along_counted, first_counted, step_counted}
 use Rattle.kms_laws.proofs.Sizes.{answered}
 use Rattle.kms_laws.proofs.Steps.{Holds, IsPlainScript}
-use Rattle.kms_told.proofs.Alone.{StandsAlone, committed-now, denied-alone, executed_after, refusal-alone, signal-alone, tested-alone, wait-alone}
+use Rattle.kms_told.proofs.Alone.{StandsAlone, committed-now, denied-alone, executed_after, refusal-alone, signal-alone, tested-alone}
+use Rattle.kms_told.proofs.Alone.{wait-alone}
 use Rattle.kms_told.proofs.JournalCommits.{HasCommits, first_commits, step_commits}
 use Rattle.kms_told.proofs.Passed.{HasPassed, first_passed, step_passed}
 

@@ -1,5 +1,6 @@
 -- The E lines of the report of a history are right: each client's are those that its replies tell, and each has a latch.
-use Rattle.std.proofs.Common.{◌≡◌, ℕ, ◌+◌, ◌<◌, ◌≤◌, true, false, List, [], ◌∷◌, ◌++◌, length, map, Some, None, refl, sym, ap, ◌∙◌, subst, arith, inl, inr, ◌⊎◌}
+use Rattle.std.proofs.Common.{◌≡◌, ℕ, ◌+◌, ◌<◌, ◌≤◌, true, false, List, [], ◌∷◌, ◌++◌, length, map, Some, None, refl, sym, ap, ◌∙◌, subst}
+use Rattle.std.proofs.Common.{arith, inl, inr, ◌⊎◌}
 use Rattle.std.specs.Prelude.{◌&&◌, ◌==◌, filter, reverse, slice_get}
 use Rattle.std.specs.List.{filter_map, flat_map}
 use Rattle.std.specs.Option.{option_map_or}
@@ -16,14 +17,16 @@ use Rattle.kms_model.specs.Machine.Histories.{at, client_numbers, is_history, re
 use Rattle.kms_model.specs.Machine.State.{Commit, Machine}
 use Rattle.kms_model.specs.Promises.{event_of_latch}
 use Rattle.kms_model.specs.Report.History.{answers_to}
-use Rattle.kms_model.specs.Report.Right.{event_in, event_is_right, events_are_whole, events_told, fits_line, has_a_line, is_not_below, latch_in, latches_in, lines_of_client, same_line}
+use Rattle.kms_model.specs.Report.Right.{event_in, event_is_right, events_are_whole, events_told, fits_line, has_a_line, is_not_below}
+use Rattle.kms_model.specs.Report.Right.{latch_in, latches_in, lines_of_client, same_line}
 use Rattle.kms_model.specs.Report.RightAnswers.{answers_in, commits_of, first_off, same_event}
 use Rattle.kms_model.specs.Report.SeenReport.{seen_events}
 use Rattle.kms_model.proofs.Items.{IsIn, list_all-from}
 use Rattle.kms_laws.proofs.ReadEvents.{read-told}
 use Rattle.kms_laws.proofs.Steps.{IsPlainScript}
 use Rattle.kms_told.specs.Told.{tells_event}
-use Rattle.kms_told.proofs.Blocks.{AreBelow, block-keys, blocks-count, filter-all, filter-none, map-in, mapped-count, not-below, own-block, pass-blocks, pass-mapped}
+use Rattle.kms_told.proofs.Blocks.{AreBelow, block-keys, blocks-count, filter-all, filter-none, map-in, mapped-count, not-below, own-block}
+use Rattle.kms_told.proofs.Blocks.{pass-blocks, pass-mapped}
 use Rattle.kms_told.proofs.Fits.{events-fit, same-event}
 use Rattle.kms_told.proofs.Items.{filter-from, in-reverse, none-off}
 use Rattle.kms_told.proofs.JournalCommits.{history_commits}

@@ -1,5 +1,6 @@
 -- The X lines of the report of a history are right: what was freed is there in the end, with its label, and closed.
-use Rattle.std.proofs.Common.{◌≡◌, ℕ, ◌+◌, Bool, true, false, cond, List, [], ◌∷◌, ◌++◌, map, Option, Some, None, refl, sym, ap, ◌∙◌, subst, inl, inr, ⊎_elim}
+use Rattle.std.proofs.Common.{◌≡◌, ℕ, ◌+◌, Bool, true, false, cond, List, [], ◌∷◌, ◌++◌, map, Option, Some, None, refl, sym, ap, ◌∙◌, subst}
+use Rattle.std.proofs.Common.{inl, inr, ⊎_elim}
 use Rattle.std.specs.Prelude.{◌==◌, nat_eq, not, option_map, pos}
 use Rattle.std.specs.List.{IsDistinct, list_any}
 use Rattle.std.specs.Str.{bytes_eq}
@@ -20,7 +21,9 @@ use Rattle.kms_model.specs.declared.worlds.Content.TheVariants as content
 use Rattle.kms_model.specs.declared.worlds.Thing.{Thing}
 use Rattle.kms_model.specs.declared.worlds.World.{World}
 use Rattle.kms_model.specs.Device.Closing.{closed_if}
-use Rattle.kms_model.specs.Device.Execution.{BufferInfo, add_fb, answer, buffer_of, close, close_refusal, close_unless, commit, committed, destroy_refusal, execute, is_framebuffer, make, make_out_fence, make_out_fences, make_unless, new_buffer_refusal, signal_refusal, signal_unless}
+use Rattle.kms_model.specs.Device.Execution.{BufferInfo, add_fb, answer, buffer_of, close, close_refusal, close_unless, commit, committed}
+use Rattle.kms_model.specs.Device.Execution.{destroy_refusal, execute, is_framebuffer, make, make_out_fence, make_out_fences, make_unless}
+use Rattle.kms_model.specs.Device.Execution.{new_buffer_refusal, signal_refusal, signal_unless}
 use Rattle.kms_model.specs.Device.Objects.{ids_of}
 use Rattle.kms_model.specs.Device.Serial.{serial}
 use Rattle.kms_model.specs.Device.World.{thing_labelled, thing_with_id}
@@ -279,7 +282,8 @@ module _ (s : Script) (h : List Step) (plain : IsPlainScript s) (is : is_history
   closed t there framebuffer freed_so =
       let unneeded : is_needed s.topology (at s h) t ≡ false =
       not-true (is_needed s.topology (at s h) t)
-      (sym (all_in (λ thing. is_framebuffer thing.content ≡ true → is_in_things (freed s h) thing ≡ not (is_needed s.topology (at s h) thing))
+      (sym (all_in (λ thing. is_framebuffer thing.content ≡ true → is_in_things (freed s h) thing
+      ≡ not (is_needed s.topology (at s h) thing))
       (at s h).device.world.things t F.unneeded there framebuffer) ∙ freed_so) in
       ⊎_elim
       (λ (off : is_framebuffer t.content ≡ false). absurd (both_bools (is_framebuffer t.content) framebuffer off))

@@ -1,5 +1,6 @@
 -- The L lines of the report of a history are right: at each CRTC they tell what the device of one thread shows, with rising counts.
-use Rattle.std.proofs.Common.{◌≡◌, ℕ, ◌<◌, ◌≤◌, Bool, true, List, [], ◌∷◌, ◌++◌, length, map, Option, Some, None, refl, sym, ap, ◌∙◌, subst, arith, inl, inr, ◌⊎◌, append-nil, append_assoc}
+use Rattle.std.proofs.Common.{◌≡◌, ℕ, ◌<◌, ◌≤◌, Bool, true, List, [], ◌∷◌, ◌++◌, length, map, Option, Some, None, refl, sym, ap, ◌∙◌, subst}
+use Rattle.std.proofs.Common.{arith, inl, inr, ◌⊎◌, append-nil, append_assoc}
 use Rattle.std.specs.Prelude.{◌&&◌, ◌==◌, option_map, reverse, slice_get}
 use Rattle.std.specs.List.{flat_map, last_or}
 use Rattle.std.specs.Option.{option_map_or}
@@ -19,7 +20,8 @@ use Rattle.kms_model.specs.Frames.FrameBytes.{frame_bytes}
 use Rattle.kms_model.specs.Headline.{CommitFrame, CommitPicture, Headline, frame_or_off}
 use Rattle.kms_model.specs.Machine.Histories.{at, is_drained, journal, latched}
 use Rattle.kms_model.specs.Machine.State.{Machine}
-use Rattle.kms_model.specs.Report.Right.{LatchLine, all_is_latched, is_not_below, last_count, latch_is_right, latches_in, lines_of_crtc, may_count, same_digest, tells_of}
+use Rattle.kms_model.specs.Report.Right.{LatchLine, all_is_latched, is_not_below, last_count, latch_is_right, latches_in, lines_of_crtc}
+use Rattle.kms_model.specs.Report.Right.{may_count, same_digest, tells_of}
 use Rattle.kms_model.specs.Report.RightAnswers.{entries_in, first_off}
 use Rattle.kms_model.specs.Report.SeenReport.{digest_shown}
 use Rattle.kms_model.proofs.Items.{IsIn, list_all-from}

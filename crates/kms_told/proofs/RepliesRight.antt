@@ -14,7 +14,8 @@ use Rattle.kms_model.specs.Device.Execution.{execute}
 use Rattle.kms_model.specs.Device.Serial.{command_of, is_accepted}
 use Rattle.kms_model.specs.Headline.{entry_answered}
 use Rattle.kms_model.specs.Machine.Steps.{is_signal, is_wait}
-use Rattle.kms_model.specs.Report.RightAnswers.{entries_in, entry_place, has_place, is_devices_reply, is_refused_late_at, is_to_entry, reply_is_right, reply_is_right_to, same_reply, world_at}
+use Rattle.kms_model.specs.Report.RightAnswers.{entries_in, entry_place, has_place, is_devices_reply, is_refused_late_at, is_to_entry}
+use Rattle.kms_model.specs.Report.RightAnswers.{reply_is_right, reply_is_right_to, same_reply, world_at}
 use Rattle.kms_told.proofs.Alone.{IsDenied, StandsAlone}
 use Rattle.kms_told.proofs.AnswersRight.{Rises, StandsRight, ToEntry, ToNone}
 use Rattle.kms_told.proofs.Built.{EntersAs}

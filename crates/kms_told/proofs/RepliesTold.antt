@@ -12,7 +12,8 @@ use Rattle.kms_model.specs.Device.Serial.{Entry, command_of}
 use Rattle.kms_model.specs.Headline.{entry_answered}
 use Rattle.kms_model.specs.Machine.Histories.{at, client_numbers, is_history, journal}
 use Rattle.kms_model.specs.Report.History.{answers_to}
-use Rattle.kms_model.specs.Report.RightAnswers.{answer_is_right, answers_are_whole, answers_in, client_is_whole, entries_in, entry_is_right, first_off, has_answer, is_answer_to, no_client_is_silent}
+use Rattle.kms_model.specs.Report.RightAnswers.{answer_is_right, answers_are_whole, answers_in, client_is_whole, entries_in, entry_is_right}
+use Rattle.kms_model.specs.Report.RightAnswers.{first_off, has_answer, is_answer_to, no_client_is_silent}
 use Rattle.kms_model.proofs.Items.{IsIn, list_all-from, list_any-has}
 use Rattle.kms_laws.proofs.AnswersFollow.{answers-follow}
 use Rattle.kms_laws.proofs.Headlines.{range-in}
@@ -22,7 +23,8 @@ use Rattle.kms_told.proofs.Alone.{StandsAlone}
 use Rattle.kms_told.proofs.AnswersRight.{Rises, StandsRight, ToEntry, ToNone, all-right, all-rise}
 use Rattle.kms_told.proofs.Built.{Built, reached}
 use Rattle.kms_told.proofs.EntriesRight.{HasReply, entries-pass, entries-right, entry-reply}
-use Rattle.kms_told.proofs.Items.{Forward, filter-from, filter-has, flat_map-has, forward-filter, forward-reverse, in-reverse, none-off, reverse-in}
+use Rattle.kms_told.proofs.Items.{Forward, filter-from, filter-has, flat_map-has, forward-filter, forward-reverse, in-reverse, none-off}
+use Rattle.kms_told.proofs.Items.{reverse-in}
 use Rattle.kms_told.proofs.Seen.{Sees}
 use Rattle.kms_told.proofs.TurnsRight.{AreOf, blocks}
 

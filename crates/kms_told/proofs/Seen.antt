@@ -17,7 +17,8 @@ use Rattle.kms_model.specs.Machine.State.{Machine}
 use Rattle.kms_model.specs.Report.History.{answers_to}
 use Rattle.kms_model.specs.Report.Right.{LatchLine, latch_from, latches_in}
 use Rattle.kms_model.specs.Report.RightAnswers.{answer_from, answers_in, entries_in, entry_from}
-use Rattle.kms_model.specs.Report.SeenReport.{digest_shown, report_seen, seen_answer, seen_end, seen_entry, seen_events, seen_latch, seen_thing}
+use Rattle.kms_model.specs.Report.SeenReport.{digest_shown, report_seen, seen_answer, seen_end, seen_entry, seen_events, seen_latch}
+use Rattle.kms_model.specs.Report.SeenReport.{seen_thing}
 
 pub map-flat_map : {A B C : Type 0} (g : B → C) (f : A → List B) (xs : List A) → map g (flat_map f xs) ≡ flat_map (λ x. map g (f x)) xs
 map-flat_map g f [] = refl

@@ -1,5 +1,6 @@
 -- The text of a history's report is that of the report as a value.
-use Rattle.std.proofs.Common.{◌≡◌, ℕ, Bool, true, false, List, [], ◌∷◌, ◌++◌, length, map, Option, refl, sym, ap, ◌∙◌, append-nil, append_assoc}
+use Rattle.std.proofs.Common.{◌≡◌, ℕ, Bool, true, false, List, [], ◌∷◌, ◌++◌, length, map, Option, refl, sym, ap, ◌∙◌, append-nil}
+use Rattle.std.proofs.Common.{append_assoc}
 use Rattle.std.specs.Prelude.{codes, if◌then◌else◌}
 use Rattle.std.specs.Fmt.{decimal}
 use Rattle.std.specs.List.{flat_map}
@@ -24,9 +25,11 @@ use Rattle.kms_model.specs.Frames.Ppm.{ppm}
 use Rattle.kms_model.specs.Machine.Framebuffers.{freed}
 use Rattle.kms_model.specs.Machine.Histories.{at, client_numbers, is_dead, is_drained, journal, latched, read_by, stalled_on}
 use Rattle.kms_model.specs.Machine.State.{Machine}
-use Rattle.kms_model.specs.Report.History.{answer_line, answers_to, digest_of, end_words, entry_line, event_line, event_lines, freed_thing_line, if_wanted, latch_line, report_of, shown_line, stalled_name, step_line, text}
+use Rattle.kms_model.specs.Report.History.{answer_line, answers_to, digest_of, end_words, entry_line, event_line, event_lines}
+use Rattle.kms_model.specs.Report.History.{freed_thing_line, if_wanted, latch_line, report_of, shown_line, stalled_name, step_line, text}
 use Rattle.kms_model.specs.Report.ReportLines.{digest_word, ending_words, line_text, report_text}
-use Rattle.kms_model.specs.Report.SeenReport.{digest_shown, report_seen, seen_answer, seen_end, seen_entry, seen_events, seen_latch, seen_thing}
+use Rattle.kms_model.specs.Report.SeenReport.{digest_shown, report_seen, seen_answer, seen_end, seen_entry, seen_events, seen_latch}
+use Rattle.kms_model.specs.Report.SeenReport.{seen_thing}
 use Rattle.kms_model.specs.Report.TextLines.{line}
 use Rattle.kms_told.specs.Told.{seen_with}
 

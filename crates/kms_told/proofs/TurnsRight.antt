@@ -1,12 +1,14 @@
 -- The R lines of a report whose replies stand by client: each is in turn.
-use Rattle.std.proofs.Common.{◌≡◌, ℕ, zero, suc, ◌+◌, ◌<◌, true, List, [], ◌∷◌, ◌++◌, Option, Some, None, refl, sym, ap, ◌∙◌, subst, arith, inl, inr, ◌⊎◌, ⊎_elim}
+use Rattle.std.proofs.Common.{◌≡◌, ℕ, zero, suc, ◌+◌, ◌<◌, true, List, [], ◌∷◌, ◌++◌, Option, Some, None, refl, sym, ap, ◌∙◌, subst, arith}
+use Rattle.std.proofs.Common.{inl, inr, ◌⊎◌, ⊎_elim}
 use Rattle.std.specs.Prelude.{◌&&◌, ◌==◌, nat_le, nat_lt, if◌then◌else◌, ⊤}
 use Rattle.std.specs.List.{flat_map, last_or, range_with_len}
 use Rattle.std.proofs.lemmas.Bool.{and_from, cond-false, cond-true, eq-eqb, lt-ltb, ne_eqb, or_right}
 use Rattle.kms_model.specs.declared.replies.Answered.{Answered}
 use Rattle.kms_model.specs.declared.reports.Report.{Report}
 use Rattle.kms_model.specs.declared.scripts.Script.{Script}
-use Rattle.kms_model.specs.Report.RightAnswers.{answer_is_right, client_is_whole, entries_in, has_place, is_in_turn, is_to_entry, may_come_behind, no_client_is_silent, reply_is_right}
+use Rattle.kms_model.specs.Report.RightAnswers.{answer_is_right, client_is_whole, entries_in, has_place, is_in_turn, is_to_entry}
+use Rattle.kms_model.specs.Report.RightAnswers.{may_come_behind, no_client_is_silent, reply_is_right}
 use Rattle.kms_model.proofs.Items.{IsIn}
 use Rattle.kms_laws.specs.Told.{AreInOrder}
 use Rattle.kms_told.proofs.AnswersRight.{Rises, StandsRight}

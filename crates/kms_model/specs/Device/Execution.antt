@@ -34,7 +34,11 @@ pub record Executed : Type 0 where
 -- one thing more, with the next id
 abbrev pub make : World → ℕ → ℕ → Content → Executed
 make w owner label content = record {
-  world = record w { things = w.things ++ record { label = label; id = w.next_id; owner = owner; content = content; is_open = true } ∷ []; next_id = w.next_id + 1 };
+  world = record w {
+    things = w.things ++ record { label = label; id = w.next_id; owner = owner; content = content; is_open = true }
+        ∷ [];
+    next_id = w.next_id + 1;
+  };
   reply = reply.Made w.next_id;
 }
 
@@ -67,7 +71,8 @@ buffer_of things client label = do
 -- A framebuffer of a buffer, in its size and format. 33: the label is no buffer of this client.
 abbrev pub add_fb : World → ℕ → ℕ → Option BufferInfo → Executed
 add_fb w client label None = answer w (reply.Denied NOT_FOUND.0)
-add_fb w client label (Some b) = make w client label (content.Framebuffer (record { id = w.next_id; width = b.width; height = b.height; format = b.format }) b.id)
+add_fb w client label (Some b) = make w client label
+    (content.Framebuffer (record { id = w.next_id; width = b.width; height = b.height; format = b.format }) b.id)
 
 -- the bytes of a thing's words: those of a buffer, 0 of any other thing
 abbrev pub buffer_bytes : Content → ℕ
@@ -158,7 +163,8 @@ make_out_fence client w (Some label) = (make w client label content.OutFence).wo
 -- the out-fences that a request asks for, in order of CRTC, with the next ids
 abbrev pub make_out_fences : ℕ → List Assign → World → List ℕ → World
 make_out_fences client assigns w [] = w
-make_out_fences client assigns w (crtc ∷ crtcs) = make_out_fences client assigns (make_out_fence client w (out_fence_label assigns crtc)) crtcs
+make_out_fences client assigns w (crtc ∷ crtcs) = make_out_fences client assigns (make_out_fence client w (out_fence_label assigns crtc))
+    crtcs
 
 -- the values of an accepted request hold, its out-fences are made, and the number of commits before it is answered
 abbrev pub committed : Topology → World → ℕ → Request → Executed
@@ -174,7 +180,8 @@ commit t w client r (Some n) = answer w (reply.Refused (record { 0 = n }))
 
 -- One command of a client. (`wait` changes nothing, and what is answered to it is not the device's of one thread.)
 unfoldable pub execute : Topology → World → ℕ → Command → Executed
-execute t w client (command.Buffer label width height format pattern) = make_unless w client label (content.Buffer width height format pattern) (new_buffer_refusal w.things width height format)
+execute t w client (command.Buffer label width height format pattern) = make_unless w client label
+    (content.Buffer width height format pattern) (new_buffer_refusal w.things width height format)
 execute t w client (command.AddFb label buffer) = add_fb w client label (buffer_of w.things client buffer)
 execute t w client (command.Mode label m) = make w client label (content.Mode m)
 execute t w client (command.Blob label bytes) = make w client label (content.Blob bytes)

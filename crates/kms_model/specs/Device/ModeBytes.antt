@@ -16,8 +16,10 @@ AreBytes bytes = AllByRecursion (λ byte. byte < 256) bytes
 abbrev pub mode_bytes : Mode → List ℕ
 mode_bytes m =
     to_le_bytes w32 m.clock
-    ++ (to_le_bytes w16 m.hdisplay ++ (to_le_bytes w16 m.hsync_start ++ (to_le_bytes w16 m.hsync_end ++ (to_le_bytes w16 m.htotal ++ (to_le_bytes w16 m.hskew
-    ++ (to_le_bytes w16 m.vdisplay ++ (to_le_bytes w16 m.vsync_start ++ (to_le_bytes w16 m.vsync_end ++ (to_le_bytes w16 m.vtotal ++ (to_le_bytes w16 m.vscan
+    ++ (to_le_bytes w16 m.hdisplay ++ (to_le_bytes w16 m.hsync_start
+    ++ (to_le_bytes w16 m.hsync_end ++ (to_le_bytes w16 m.htotal ++ (to_le_bytes w16 m.hskew
+    ++ (to_le_bytes w16 m.vdisplay ++ (to_le_bytes w16 m.vsync_start
+    ++ (to_le_bytes w16 m.vsync_end ++ (to_le_bytes w16 m.vtotal ++ (to_le_bytes w16 m.vscan
     ++ (to_le_bytes w32 m.vrefresh ++ (to_le_bytes w32 m.flags ++ (to_le_bytes w32 m.kind
     ++ m.name)))))))))))))
 

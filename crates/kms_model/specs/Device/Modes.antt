@@ -57,7 +57,8 @@ full_hd = record {
 
 -- all contents of a mode
 abbrev pub mode_numbers : Mode → List ℕ
-mode_numbers m = m.clock ∷ m.hdisplay ∷ m.hsync_start ∷ m.hsync_end ∷ m.htotal ∷ m.hskew ∷ m.vdisplay ∷ m.vsync_start ∷ m.vsync_end ∷ m.vtotal ∷ m.vscan ∷ m.vrefresh ∷ m.flags ∷ m.kind ∷ []
+mode_numbers m = m.clock ∷ m.hdisplay ∷ m.hsync_start ∷ m.hsync_end ∷ m.htotal ∷ m.hskew ∷ m.vdisplay ∷ m.vsync_start ∷ m.vsync_end
+    ∷ m.vtotal ∷ m.vscan ∷ m.vrefresh ∷ m.flags ∷ m.kind ∷ []
 
 -- equal lists of numbers
 abbrev pub same_numbers : List ℕ → List ℕ → Bool

@@ -4,7 +4,8 @@ use Rattle.std.specs.List.{range_with_len}
 use Rattle.kms_model.specs.declared.objects.Kind.{Kind}
 use Rattle.kms_model.specs.declared.objects.Kind.TheVariants.{Crtc, Plane, Conn, Enc}
 use Rattle.kms_model.specs.declared.objects.Topology.{Topology}
-use Rattle.kms_model.specs.declared.objects.TheConstants.{FIRST_CRTC_ID, FIRST_PLANE_ID, FIRST_CONNECTOR_ID, FIRST_ENCODER_ID, MAX_CRTCS, MAX_PLANES, MAX_CONNECTORS}
+use Rattle.kms_model.specs.declared.objects.TheConstants.{FIRST_CRTC_ID, FIRST_PLANE_ID, FIRST_CONNECTOR_ID, FIRST_ENCODER_ID, MAX_CRTCS}
+use Rattle.kms_model.specs.declared.objects.TheConstants.{MAX_PLANES, MAX_CONNECTORS}
 
 abbrev pub first_id : Kind → ℕ
 first_id Crtc = FIRST_CRTC_ID

@@ -1,6 +1,7 @@
 -- The tables of properties, formats and flags, and which devices there are. From: "KMS Properties", `drm_mode.h` and
 -- `drm_fourcc.h`; the ids of properties and the limits of a device are this project's own.
-use Rattle.std.specs.Prelude.{ℕ, ◌+◌, ◌^◌, Bool, true, false, ◌&&◌, ◌==◌, bit_and, nat_lt, pos, negsuc, List, [], ◌∷◌, length, find, Option, is_some, option_map, codes, nat_le}
+use Rattle.std.specs.Prelude.{ℕ, ◌+◌, ◌^◌, Bool, true, false, ◌&&◌, ◌==◌, bit_and, nat_lt, pos, negsuc, List, [], ◌∷◌, length, find, Option}
+use Rattle.std.specs.Prelude.{is_some, option_map, codes, nat_le}
 use Rattle.std.specs.List.{list_any, list_all}
 use Rattle.std.specs.Str.{bytes_eq}
 use Rattle.kms_model.specs.declared.flags.TheConstants.{PAGE_FLIP_EVENT, PAGE_FLIP_ASYNC, TEST_ONLY, NONBLOCK, ALLOW_MODESET}
@@ -11,7 +12,9 @@ use Rattle.kms_model.specs.declared.objects.Kind.TheVariants.{Crtc, Plane, Conn,
 use Rattle.kms_model.specs.declared.objects.PlaneInfo.{PlaneInfo}
 use Rattle.kms_model.specs.declared.objects.Topology.{Topology}
 use Rattle.kms_model.specs.declared.objects.TheConstants.{MAX_CRTCS, MAX_PLANES, MAX_CONNECTORS}
-use Rattle.kms_model.specs.declared.properties.TheConstants.{TYPE, FB_ID, CRTC_ID, CRTC_X, CRTC_Y, CRTC_W, CRTC_H, SRC_X, SRC_Y, SRC_W, SRC_H, IN_FENCE_FD, ALPHA, BLEND, ZPOS, ACTIVE, MODE_ID, OUT_FENCE_PTR, GAMMA_LUT}
+use Rattle.kms_model.specs.declared.properties.TheConstants.{TYPE, FB_ID, CRTC_ID, CRTC_X, CRTC_Y, CRTC_W, CRTC_H, SRC_X, SRC_Y, SRC_W}
+use Rattle.kms_model.specs.declared.properties.TheConstants.{SRC_H, IN_FENCE_FD, ALPHA, BLEND, ZPOS, ACTIVE, MODE_ID, OUT_FENCE_PTR}
+use Rattle.kms_model.specs.declared.properties.TheConstants.{GAMMA_LUT}
 use Rattle.kms_model.specs.declared.ranges.Range.{Range}
 use Rattle.kms_model.specs.declared.ranges.Range.TheVariants.{Numbers, Thing, CrtcName}
 use Rattle.kms_model.specs.Script.Words.{between}

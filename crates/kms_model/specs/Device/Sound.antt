@@ -1,6 +1,7 @@
 -- Sound worlds: those that hold what the device accepts. From: "Atomic Mode Setting": a state that was checked is one
 -- that the hardware can show.
-use Rattle.std.specs.Prelude.{◌≡◌, ◌<◌, ◌≤◌, ◌≤ℤ◌, ℕ, ◌+◌, Bool, false, ◌&&◌, ◌||◌, ◌==◌, ℤ, pos, negsuc, int_le, List, [], ◌∷◌, length, filter, is_some, Option, Some, None, IsTrue, All, ⊤, true}
+use Rattle.std.specs.Prelude.{◌≡◌, ◌<◌, ◌≤◌, ◌≤ℤ◌, ℕ, ◌+◌, Bool, false, ◌&&◌, ◌||◌, ◌==◌, ℤ, pos, negsuc, int_le, List, [], ◌∷◌, length}
+use Rattle.std.specs.Prelude.{filter, is_some, Option, Some, None, IsTrue, All, ⊤, true}
 use Rattle.std.specs.List.{list_any, list_all}
 use Rattle.std.specs.Ordering.{int_eq}
 use Rattle.kms_model.specs.declared.objects.Kind.{Kind}
@@ -75,7 +76,8 @@ abbrev pub kept_properties : Kind → List Property
 kept_properties kind = filter (λ p. is_of_kind kind (Some p) && is_kept p.id) properties
 
 abbrev pub holds_values : Topology → List worlds.Thing → List Setting → Kind → Bool
-holds_values t things values kind = list_all (λ object. list_all (holds_value t things values object) (kept_properties kind)) (ids_of t kind)
+holds_values t things values kind = list_all (λ object. list_all (holds_value t things values object) (kept_properties kind))
+    (ids_of t kind)
 
 -- each value of each object is among its property's values
 abbrev pub are_held : Topology → List worlds.Thing → List Setting → Bool

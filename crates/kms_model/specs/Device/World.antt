@@ -6,7 +6,8 @@ use Rattle.std.specs.List.{range_with_len}
 use Rattle.kms_model.specs.declared.objects.Kind.TheVariants.{Crtc, Plane, Conn}
 use Rattle.kms_model.specs.declared.objects.PlaneInfo.{PlaneInfo}
 use Rattle.kms_model.specs.declared.objects.Topology.{Topology}
-use Rattle.kms_model.specs.declared.properties.TheConstants.{TYPE, FB_ID, CRTC_ID, CRTC_X, CRTC_Y, CRTC_W, CRTC_H, SRC_X, SRC_Y, SRC_W, SRC_H, ALPHA, BLEND, ZPOS, ACTIVE, MODE_ID, GAMMA_LUT}
+use Rattle.kms_model.specs.declared.properties.TheConstants.{TYPE, FB_ID, CRTC_ID, CRTC_X, CRTC_Y, CRTC_W, CRTC_H, SRC_X, SRC_Y, SRC_W}
+use Rattle.kms_model.specs.declared.properties.TheConstants.{SRC_H, ALPHA, BLEND, ZPOS, ACTIVE, MODE_ID, GAMMA_LUT}
 use Rattle.kms_model.specs.declared.worlds.Setting.{Setting}
 use Rattle.kms_model.specs.declared.worlds.Thing.{Thing}
 use Rattle.kms_model.specs.declared.worlds.World.{World}
@@ -53,7 +54,8 @@ start_crtc index = settings (object_id Crtc index) ((ACTIVE, pos 0) ∷ (MODE_ID
 -- its index. (IN_FENCE_FD and OUT_FENCE_PTR belong to a request alone and have no setting.)
 abbrev pub start_plane : ℕ → PlaneInfo → List Setting
 start_plane index info = settings (object_id Plane index) ((TYPE, pos info.kind) ∷ (FB_ID, pos 0) ∷ (CRTC_ID, pos 0)
-    ∷ (CRTC_X, pos 0) ∷ (CRTC_Y, pos 0) ∷ (CRTC_W, pos 0) ∷ (CRTC_H, pos 0) ∷ (SRC_X, pos 0) ∷ (SRC_Y, pos 0) ∷ (SRC_W, pos 0) ∷ (SRC_H, pos 0)
+    ∷ (CRTC_X, pos 0) ∷ (CRTC_Y, pos 0) ∷ (CRTC_W, pos 0) ∷ (CRTC_H, pos 0) ∷ (SRC_X, pos 0) ∷ (SRC_Y, pos 0) ∷ (SRC_W, pos 0)
+    ∷ (SRC_H, pos 0)
     ∷ (ALPHA, pos 65535) ∷ (BLEND, pos 0) ∷ (ZPOS, pos index) ∷ [])
 
 -- the planes at the start, of which the first has an index
@@ -68,7 +70,8 @@ start_conn index = settings (object_id Conn index) ((CRTC_ID, pos 0) ∷ [])
 -- the device before the first command
 abbrev pub start : Topology → World
 start t = record {
-  values = flat_map start_crtc (range_with_len 0 (count_of t Crtc)) ++ start_planes 0 t.planes ++ flat_map start_conn (range_with_len 0 (count_of t Conn));
+  values = flat_map start_crtc (range_with_len 0 (count_of t Crtc)) ++ start_planes 0 t.planes
+      ++ flat_map start_conn (range_with_len 0 (count_of t Conn));
   things = [];
   next_id = 1000;
   commits = 0;

@@ -1,5 +1,6 @@
 -- The bytes of a frame, pixel by pixel. From: "Plane Composition Properties"; `drm_fourcc.h`.
-use Rattle.std.specs.Prelude.{ℕ, ◌+◌, ◌-◌, ◌*◌, ◌/◌, ◌%◌, Bool, false, ◌&&◌, ◌==◌, min, ℤ, pos, ◌+ℤ◌, ◌-ℤ◌, int_lt, int_le, List, [], ◌∷◌, Option, Some, None, if◌then◌else◌, slice_index}
+use Rattle.std.specs.Prelude.{ℕ, ◌+◌, ◌-◌, ◌*◌, ◌/◌, ◌%◌, Bool, false, ◌&&◌, ◌==◌, min, ℤ, pos, ◌+ℤ◌, ◌-ℤ◌, int_lt, int_le, List, [], ◌∷◌}
+use Rattle.std.specs.Prelude.{Option, Some, None, if◌then◌else◌, slice_index}
 use Rattle.std.specs.List.{flat_map, range_with_len}
 use Rattle.kms_model.specs.declared.objects.Format.{Format}
 use Rattle.kms_model.specs.declared.objects.Format.TheVariants.{Xr24, Ar24, Rg16}
@@ -39,7 +40,13 @@ six_bits v = v * 4 + v / 16
 abbrev pub colour_of : Format → ℕ → Colour
 colour_of Xr24 word = record { alpha = 255; red = word / 65536 % 256; green = word / 256 % 256; blue = word % 256 }
 colour_of Ar24 word = record { alpha = word / 16777216; red = word / 65536 % 256; green = word / 256 % 256; blue = word % 256 }
-colour_of Rg16 word = record { alpha = 255; red = five_bits (word / 2048 % 32); green = six_bits (word / 32 % 64); blue = five_bits (word % 32) }
+colour_of Rg16 word = record {
+  alpha = 255;
+  red = five_bits (word / 2048 % 32);
+  green = six_bits (word / 32 % 64);
+  blue = five_bits
+      (word % 32);
+}
 
 -- 65535 * 255: an opaque plane's alpha with an opaque pixel's
 abbrev pub opaque : ℕ

@@ -20,7 +20,8 @@ seen_word s x y = slice_index s.words (y * s.width + x)
 
 -- what is read of a thing that is a buffer: the words of its pattern
 abbrev pub seen_in : Content → Option Seen
-seen_in (content.Buffer width height format pattern) = Some (record { width = width; height = height; format = format; words = buffer_words pattern format width height })
+seen_in (content.Buffer width height format pattern) = Some
+    (record { width = width; height = height; format = format; words = buffer_words pattern format width height })
 seen_in _ = None
 
 -- what is read of a framebuffer: its buffer

@@ -11,7 +11,16 @@ nowhere = record { x = pos 0; y = pos 0; w = pos 0; h = pos 0 }
 
 -- what an unused place holds
 abbrev pub blank_layer : Layer
-blank_layer = record { plane = 0; fb = record { id = 0; width = 0; height = 0; format = Xr24 }; dst = nowhere; src = nowhere; visible = None; alpha = 0; blend = 0 }
+blank_layer = record {
+  plane = 0;
+  fb = record { id = 0; width = 0; height = 0; format = Xr24 };
+  dst = nowhere;
+  src = nowhere;
+  visible =
+      None;
+  alpha = 0;
+  blend = 0;
+}
 
 -- 16 places, of which the unused ones are blank
 pub record IsInPlace (items : List Layer) (count : ℕ) : Type 0 where

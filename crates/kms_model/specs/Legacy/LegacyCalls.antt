@@ -136,13 +136,15 @@ unfoldable pub cursor_read : Topology → Names → List ℕ → CallRead
 cursor_read t names bytes = do
   crtc ← index_at t Crtc bytes
   if is_off crtc.1 then Some (call.CursorOff crtc.0, names)
-      else option_map_or (λ rest. option_map (λ corner. (call.CursorMove crtc.0 corner.0 corner.1, names)) (corner_at rest)) (strip (codes " move") crtc.1)
+      else option_map_or (λ rest. option_map (λ corner. (call.CursorMove crtc.0 corner.0 corner.1, names)) (corner_at rest))
+      (strip (codes " move") crtc.1)
       (cursor_fields names crtc.0 crtc.1)
 
 -- Lines of a client
 
 abbrev pub is_call_word : List ℕ → Bool
-is_call_word word = bytes_eq word (codes "setcrtc") || (bytes_eq word (codes "setplane") || (bytes_eq word (codes "pageflip") || bytes_eq word (codes "cursor")))
+is_call_word word = bytes_eq word (codes "setcrtc")
+    || (bytes_eq word (codes "setplane") || (bytes_eq word (codes "pageflip") || bytes_eq word (codes "cursor")))
 
 -- the call that a line spells, on a device: the line's first word says which
 unfoldable pub call_read : Topology → Names → List ℕ → CallRead

@@ -10,7 +10,10 @@ refuses_call r name errno text source = record { number = r.0; name = name; errn
 
 abbrev pub legacy_rule_rows : List RuleRow
 legacy_rule_rows =
-    refuses_call legacy.NO_PLANE (codes "NO_PLANE") EINVAL (codes "the call needs the CRTC's primary plane or its cursor plane, and there is none") (codes "own")
-    ∷ refuses_call legacy.NOT_SHOWN (codes "NOT_SHOWN") EBUSY (codes "the primary plane is not on the CRTC") (codes "drm_mode_page_flip_ioctl")
-    ∷ refuses_call legacy.FORMAT_CHANGES (codes "FORMAT_CHANGES") EINVAL (codes "the framebuffer has another format than the one that is shown") (codes "drm_mode_page_flip_ioctl")
+    refuses_call legacy.NO_PLANE (codes "NO_PLANE") EINVAL
+    (codes "the call needs the CRTC's primary plane or its cursor plane, and there is none") (codes "own")
+    ∷ refuses_call legacy.NOT_SHOWN (codes "NOT_SHOWN") EBUSY (codes "the primary plane is not on the CRTC")
+    (codes "drm_mode_page_flip_ioctl")
+    ∷ refuses_call legacy.FORMAT_CHANGES (codes "FORMAT_CHANGES") EINVAL
+    (codes "the framebuffer has another format than the one that is shown") (codes "drm_mode_page_flip_ioctl")
     ∷ []

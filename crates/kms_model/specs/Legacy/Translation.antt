@@ -3,7 +3,8 @@
 -- drm_mode_cursor_universal; `drm_atomic_helper.c`, drm_atomic_helper_set_config, drm_atomic_helper_update_plane,
 -- drm_atomic_helper_disable_plane, drm_atomic_helper_page_flip, by which drivers translate these calls too; `drm_atomic.c`,
 -- __drm_atomic_helper_set_config, which sets the connectors in this order.
-use Rattle.std.specs.Prelude.{ℕ, zero, suc, ◌+◌, ◌*◌, ◌==◌, ◌&&◌, Bool, false, not, ℤ, pos, List, [], ◌∷◌, ◌++◌, filter, find, map, option_and_then, Option, Some, None, Result, Ok, Err, slice_get, if◌then◌else◌}
+use Rattle.std.specs.Prelude.{ℕ, zero, suc, ◌+◌, ◌*◌, ◌==◌, ◌&&◌, Bool, false, not, ℤ, pos, List, [], ◌∷◌, ◌++◌, filter, find, map}
+use Rattle.std.specs.Prelude.{option_and_then, Option, Some, None, Result, Ok, Err, slice_get, if◌then◌else◌}
 use Rattle.std.specs.List.{cons_option}
 use Rattle.std.specs.Option.{option_map_or}
 use Rattle.kms_model.specs.declared.flags.TheConstants.{PAGE_FLIP_EVENT, NONBLOCK, ALLOW_MODESET}
@@ -15,7 +16,8 @@ use Rattle.kms_model.specs.declared.objects.Mode.{Mode}
 use Rattle.kms_model.specs.declared.objects.Topology.{Topology}
 use Rattle.kms_model.specs.declared.pictures.FbInfo.{FbInfo}
 use Rattle.kms_model.specs.declared.pictures.Rect.{Rect}
-use Rattle.kms_model.specs.declared.properties.TheConstants.{FB_ID, CRTC_ID, CRTC_X, CRTC_Y, CRTC_W, CRTC_H, SRC_X, SRC_Y, SRC_W, SRC_H, ACTIVE, MODE_ID}
+use Rattle.kms_model.specs.declared.properties.TheConstants.{FB_ID, CRTC_ID, CRTC_X, CRTC_Y, CRTC_W, CRTC_H, SRC_X, SRC_Y, SRC_W, SRC_H}
+use Rattle.kms_model.specs.declared.properties.TheConstants.{ACTIVE, MODE_ID}
 use Rattle.kms_model.specs.declared.scripts.Assign.{Assign}
 use Rattle.kms_model.specs.declared.scripts.Request.{Request}
 use Rattle.kms_model.specs.declared.scripts.Value.TheVariants as value

@@ -1,6 +1,7 @@
 -- What a commit is about, and what was done of it. From: "Atomic Mode Setting", drm_atomic_helper_setup_commit,
 -- drm_atomic_helper_wait_for_dependencies, drm_atomic_helper_wait_for_flip_done.
-use Rattle.std.specs.Prelude.{ℕ, zero, suc, ◌==◌, ◌&&◌, ◌||◌, not, Bool, true, false, List, [], ◌∷◌, ◌++◌, length, map, Option, Some, None, if◌then◌else◌}
+use Rattle.std.specs.Prelude.{ℕ, zero, suc, ◌==◌, ◌&&◌, ◌||◌, not, Bool, true, false, List, [], ◌∷◌, ◌++◌, length, map, Option, Some, None}
+use Rattle.std.specs.Prelude.{if◌then◌else◌}
 use Rattle.std.specs.List.{list_any, list_all}
 use Rattle.kms_model.specs.Device.Sound.{empty_request}
 use Rattle.kms_model.specs.declared.objects.Kind.TheVariants.{Crtc, Plane, Conn, Enc}
@@ -86,7 +87,8 @@ commit_concerns t cs k object crtc = is_on_before_or_after (kind_of object) (com
 
 -- A commit has flipped for an object where it has latched on every CRTC that the object is, or is on before or after.
 unfoldable pub has_flipped : Topology → List Commit → List Latch → ℕ → ℕ → Bool
-has_flipped t cs latches k object = list_all (λ crtc. not (commit_concerns t cs k object crtc) || has_latched latches k crtc) (ids_of t Crtc)
+has_flipped t cs latches k object = list_all (λ crtc. not (commit_concerns t cs k object crtc) || has_latched latches k crtc)
+    (ids_of t Crtc)
 
 -- States: the old ones of a commit are those in the world before it; the new ones are read with the things of that world
 

@@ -7,7 +7,8 @@ use Rattle.kms_model.specs.declared.replies.Event.{Event}
 use Rattle.kms_model.specs.declared.replies.Reply.{Reply}
 use Rattle.kms_model.specs.declared.replies.Reply.TheVariants as reply
 use Rattle.kms_model.specs.declared.replies.Step.{Step}
-use Rattle.kms_model.specs.declared.replies.Step.TheVariants.{Begin, Lock, BackOff, Relock, Refuse, Test, Swap, Make, Signal, Claim, Write, Flush, HwDone, Vblank, Cleanup, Read, Return, Stall}
+use Rattle.kms_model.specs.declared.replies.Step.TheVariants.{Begin, Lock, BackOff, Relock, Refuse, Test, Swap, Make, Signal, Claim, Write}
+use Rattle.kms_model.specs.declared.replies.Step.TheVariants.{Flush, HwDone, Vblank, Cleanup, Read, Return, Stall}
 use Rattle.kms_model.specs.declared.runs.Doing.{Doing}
 use Rattle.kms_model.specs.declared.runs.Doing.TheVariants as doing
 use Rattle.kms_model.specs.declared.runs.Latch.{Latch}
@@ -26,8 +27,10 @@ use Rattle.kms_model.specs.Request.Named.{named}
 use Rattle.kms_model.specs.Request.Sets.{obj_id}
 use Rattle.kms_model.specs.Request.Verdict.{verdict}
 use Rattle.kms_model.specs.Machine.Commits.{commit_at, asks_event, out_fence_of, id_of_thing, new_plane, new_crtc, new_connector, previous}
-use Rattle.kms_model.specs.Machine.Registers.{Registers, decoded_picture, latched_registers, plane_words, crtc_words, write_plane, write_crtc}
-use Rattle.kms_model.specs.Machine.State.{Machine, DeviceState, place_at, doing_at, command_at, request_at, entry_at, holder_at, has_value, go_at, count_at, reserved_at, unread_at}
+use Rattle.kms_model.specs.Machine.Registers.{Registers, decoded_picture, latched_registers, plane_words, crtc_words, write_plane}
+use Rattle.kms_model.specs.Machine.Registers.{write_crtc}
+use Rattle.kms_model.specs.Machine.State.{Machine, DeviceState, place_at, doing_at, command_at, request_at, entry_at, holder_at, has_value}
+use Rattle.kms_model.specs.Machine.State.{go_at, count_at, reserved_at, unread_at}
 use Rattle.kms_model.specs.Machine.Steps.{ticket_of, contended, space_used, lacks_space, first_pending}
 
 -- Places, locks and replies
@@ -58,7 +61,8 @@ drops_locks m client = record m { contexts = record m.contexts { locks = dropped
 abbrev pub answers : Machine → ℕ → Reply → Machine
 answers m client r = record m {
   records = record m.records {
-    replies = record { client = client; command = (place_at m client).command; place = length m.records.journal; reply = r } ∷ m.records.replies;
+    replies = record { client = client; command = (place_at m client).command; place = length m.records.journal; reply = r }
+        ∷ m.records.replies;
   };
 }
 
@@ -88,7 +92,8 @@ backed_off d = d
 
 abbrev pub relocked : Machine → ℕ → Option ℕ → Machine
 relocked m client None = m
-relocked m client (Some object) = put_lock (now_doing m client (doing.Taking (record { 0 = ticket_of (doing_at m client) }))) object (Some client)
+relocked m client (Some object) = put_lock (now_doing m client (doing.Taking (record { 0 = ticket_of (doing_at m client) }))) object
+    (Some client)
 
 -- Decisions
 
@@ -116,7 +121,12 @@ refused t m client (Some r) = decided m client (refusal_reply t m client r (verd
 abbrev pub reserves : Topology → Machine → ℕ → Request → Machine
 reserves t m client r =
     if wants_event r.flags
-    then record m { events = record m.events { reserved = (client, reserved_at m.events client + length (named t m.device.world r)) ∷ m.events.reserved } }
+    then record m {
+      events = record m.events {
+        reserved = (client, reserved_at m.events client + length (named t m.device.world r))
+            ∷ m.events.reserved;
+      };
+    }
     else m
 
 -- a commit is set up, and its request holds
@@ -191,7 +201,8 @@ claims m k = record m { device = record m.device { marks = record m.device.marks
 -- The registers of an object become those of its new state. A CRTC gets the connector that is on it then, touched or not.
 abbrev pub written_registers : Topology → DeviceState → ℕ → ℕ → Registers
 written_registers t d k object =
-    if is_id_of Crtc object then write_crtc d.shadow object (crtc_words (new_connector t d.commits k object) (new_crtc t d.commits k object))
+    if is_id_of Crtc object then write_crtc d.shadow object
+    (crtc_words (new_connector t d.commits k object) (new_crtc t d.commits k object))
     else write_plane d.shadow object (plane_words (new_plane t d.commits k object))
 
 abbrev pub writes : Topology → Machine → ℕ → ℕ → Machine
@@ -204,7 +215,11 @@ writes t m k object = record m {
 
 -- the event of a commit for a CRTC
 abbrev pub event_of : Topology → Machine → ℕ → ℕ → ℕ → Event
-event_of t m k crtc count = record { user_data = (commit_at t m.device.commits k).request.user_data; sequence = count % 2 ^ 32; crtc = crtc }
+event_of t m k crtc count = record {
+  user_data = (commit_at t m.device.commits k).request.user_data;
+  sequence = count % 2 ^ 32;
+  crtc = crtc;
+}
 
 -- it becomes unread for the commit's client
 abbrev pub delivers : Topology → Machine → ℕ → ℕ → ℕ → Machine
@@ -226,7 +241,12 @@ live_then t m crtc = latched_registers t m.device.shadow m.device.live crtc
 
 -- what is recorded of a commit that latches at a CRTC: the picture that the live words are then
 abbrev pub latch_of : Topology → Machine → ℕ → ℕ → ℕ → Latch
-latch_of t m k crtc count = record { crtc = index_of crtc; commit = k; count = count; picture = decoded_picture t (live_then t m crtc) crtc }
+latch_of t m k crtc count = record {
+  crtc = index_of crtc;
+  commit = k;
+  count = count;
+  picture = decoded_picture t (live_then t m crtc) crtc;
+}
 
 -- a commit latches at a CRTC: the live words become the shadow words there, and the picture is recorded
 abbrev pub latches_picture : Topology → Machine → ℕ → ℕ → ℕ → Machine
@@ -243,7 +263,8 @@ latches t m k crtc count =
 -- A CRTC that is on after the commit waits for its vblank; one that is off latches at once, with the count as it is.
 abbrev pub flushes : Topology → Machine → ℕ → ℕ → Machine
 flushes t m k crtc =
-    let flushed = record m { device = record m.device { marks = record m.device.marks { flushed = (k, crtc) ∷ m.device.marks.flushed } } } in
+    let flushed = record m { device = record m.device { marks = record m.device.marks { flushed = (k, crtc) ∷ m.device.marks.flushed } } }
+    in
     if (new_crtc t m.device.commits k crtc).active
     then record flushed { device = record flushed.device { go = (crtc, Some k) ∷ flushed.device.go } }
     else latches t flushed k crtc (count_at m.device crtc)

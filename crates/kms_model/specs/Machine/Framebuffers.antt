@@ -40,7 +40,8 @@ live_names t d id = list_any (λ crtc. picture_names id (decoded_picture t d.liv
 -- an old or a new state of a plane that a commit touches names it
 unfoldable pub commit_keeps : Topology → DeviceState → ℕ → ℕ → Bool
 commit_keeps t d id k =
-    list_any (λ plane. commit_touches t d.commits k plane && (is_fb id (old_plane t d.commits k plane).fb || is_fb id (new_plane t d.commits k plane).fb)) (ids_of t Plane)
+    list_any (λ plane. commit_touches t d.commits k plane
+    && (is_fb id (old_plane t d.commits k plane).fb || is_fb id (new_plane t d.commits k plane).fb)) (ids_of t Plane)
 
 abbrev pub commits_keep : Topology → Machine → ℕ → Bool
 commits_keep t m id = list_any (λ k. not (is_cleaned m.device k) && commit_keeps t m.device id k) (commit_numbers m)

@@ -1,5 +1,6 @@
 -- Histories: lists of steps of which each is legal after those before it, and what they tell. From: as for the steps.
-use Rattle.std.specs.Prelude.{ℕ, ◌+◌, ◌==◌, ◌&&◌, ◌||◌, not, Bool, true, false, List, [], ◌∷◌, ◌++◌, length, map, filter, find, reverse, is_some, is_none, Option, Some, None, if◌then◌else◌}
+use Rattle.std.specs.Prelude.{ℕ, ◌+◌, ◌==◌, ◌&&◌, ◌||◌, not, Bool, true, false, List, [], ◌∷◌, ◌++◌, length, map, filter, find, reverse}
+use Rattle.std.specs.Prelude.{is_some, is_none, Option, Some, None, if◌then◌else◌}
 use Rattle.std.specs.List.{list_any, list_all, flat_map, range_with_len}
 use Rattle.kms_model.specs.declared.objects.Kind.{Kind}
 use Rattle.kms_model.specs.declared.objects.Kind.TheVariants.{Crtc, Plane, Conn}
@@ -9,7 +10,8 @@ use Rattle.kms_model.specs.declared.pictures.Picture.TheVariants.{Off}
 use Rattle.kms_model.specs.declared.replies.Answered.{Answered}
 use Rattle.kms_model.specs.declared.replies.Event.{Event}
 use Rattle.kms_model.specs.declared.replies.Step.{Step}
-use Rattle.kms_model.specs.declared.replies.Step.TheVariants.{Begin, Lock, BackOff, Relock, Refuse, Test, Swap, Make, Signal, Claim, Write, Flush, HwDone, Vblank, Cleanup, Read, Return, Stall}
+use Rattle.kms_model.specs.declared.replies.Step.TheVariants.{Begin, Lock, BackOff, Relock, Refuse, Test, Swap, Make, Signal, Claim, Write}
+use Rattle.kms_model.specs.declared.replies.Step.TheVariants.{Flush, HwDone, Vblank, Cleanup, Read, Return, Stall}
 use Rattle.kms_model.specs.declared.runs.Latch.{Latch}
 use Rattle.kms_model.specs.declared.scripts.Script.{Script}
 use Rattle.kms_model.specs.declared.worlds.Thing.{Thing}
@@ -49,8 +51,10 @@ for_each t kind step = map (step kind) (range_with_len 0 (count_of t kind))
 
 abbrev pub steps_of_client : Topology → ℕ → List Step
 steps_of_client t client =
-    Begin client ∷ BackOff client ∷ Relock client ∷ Refuse client ∷ Test client ∷ Swap client ∷ Make client ∷ Signal client ∷ Read client ∷ Return client
-    ∷ for_each t Crtc (λ kind index. Lock client kind index) ++ (for_each t Plane (λ kind index. Lock client kind index) ++ for_each t Conn (λ kind index. Lock client kind index))
+    Begin client ∷ BackOff client ∷ Relock client ∷ Refuse client ∷ Test client ∷ Swap client ∷ Make client ∷ Signal client ∷ Read client
+    ∷ Return client
+    ∷ for_each t Crtc (λ kind index. Lock client kind index)
+    ++ (for_each t Plane (λ kind index. Lock client kind index) ++ for_each t Conn (λ kind index. Lock client kind index))
 
 abbrev pub steps_of_commit : Topology → ℕ → List Step
 steps_of_commit t k =
@@ -59,7 +63,8 @@ steps_of_commit t k =
 
 -- the vblanks of the CRTCs that have GO
 abbrev pub steps_with_go : Topology → Machine → List Step
-steps_with_go t m = map (λ index. Vblank Crtc index) (filter (λ index. is_some (go_at m.device (object_id Crtc index))) (range_with_len 0 (count_of t Crtc)))
+steps_with_go t m = map (λ index. Vblank Crtc index)
+    (filter (λ index. is_some (go_at m.device (object_id Crtc index))) (range_with_len 0 (count_of t Crtc)))
 
 abbrev pub steps_that_move : Script → Machine → List Step
 steps_that_move s m =

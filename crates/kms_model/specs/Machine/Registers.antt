@@ -1,7 +1,8 @@
 -- The registers of planes and CRTCs, each with a shadow word, which workers write, and a live word, which a latch copies
 -- from it. All words have 32 bits. From: "Plane Helper Reference" and "Vertical Blanking": a display controller takes what
 -- was programmed at its next vblank; the registers and their layout are this device's own.
-use Rattle.std.specs.Prelude.{ℕ, ◌==◌, ◌||◌, Bool, not, pos, List, [], ◌∷◌, replicate, Option, Some, None, if◌then◌else◌, slice_range, is_some, ◌++◌}
+use Rattle.std.specs.Prelude.{ℕ, ◌==◌, ◌||◌, Bool, not, pos, List, [], ◌∷◌, replicate, Option, Some, None, if◌then◌else◌, slice_range}
+use Rattle.std.specs.Prelude.{is_some, ◌++◌}
 use Rattle.std.specs.List.{flat_map}
 use Rattle.std.specs.Int.{w32, to_le_bytes, from_le_bytes, cast_signed, cast_unsigned}
 use Rattle.std.specs.Option.{option_map_or}

@@ -2,13 +2,15 @@
 -- `drm_atomic_helper.c` (drm_atomic_helper_setup_commit, drm_atomic_helper_wait_for_dependencies, commit tail), "Vertical
 -- Blanking", `drm_file.c` (drm_event_reserve_init, drm_read), "DMA Fences". That contexts follow wait-die, and the order in
 -- which a worker writes and flushes, are this device's own.
-use Rattle.std.specs.Prelude.{ℕ, ◌+◌, ◌*◌, ◌==◌, ◌&&◌, ◌||◌, not, nat_lt, Bool, true, false, length, find, is_none, is_some, Option, Some, None}
+use Rattle.std.specs.Prelude.{ℕ, ◌+◌, ◌*◌, ◌==◌, ◌&&◌, ◌||◌, not, nat_lt, Bool, true, false, length, find, is_none, is_some, Option, Some}
+use Rattle.std.specs.Prelude.{None}
 use Rattle.std.specs.List.{list_all}
 use Rattle.kms_model.specs.declared.objects.Kind.{Kind}
 use Rattle.kms_model.specs.declared.objects.Kind.TheVariants.{Crtc, Enc}
 use Rattle.kms_model.specs.declared.objects.Topology.{Topology}
 use Rattle.kms_model.specs.declared.replies.Step.{Step}
-use Rattle.kms_model.specs.declared.replies.Step.TheVariants.{Begin, Lock, BackOff, Relock, Refuse, Test, Swap, Make, Signal, Claim, Write, Flush, HwDone, Vblank, Cleanup, Read, Return, Stall}
+use Rattle.kms_model.specs.declared.replies.Step.TheVariants.{Begin, Lock, BackOff, Relock, Refuse, Test, Swap, Make, Signal, Claim, Write}
+use Rattle.kms_model.specs.declared.replies.Step.TheVariants.{Flush, HwDone, Vblank, Cleanup, Read, Return, Stall}
 use Rattle.kms_model.specs.declared.runs.Doing.{Doing}
 use Rattle.kms_model.specs.declared.runs.Doing.TheVariants as doing
 use Rattle.kms_model.specs.declared.scripts.Command.{Command}
@@ -21,9 +23,12 @@ use Rattle.kms_model.specs.Request.Named.{named}
 use Rattle.kms_model.specs.Request.Reach.{reaches}
 use Rattle.kms_model.specs.Request.Touched.{touches}
 use Rattle.kms_model.specs.Request.Verdict.{early_in, late_in, verdict}
-use Rattle.kms_model.specs.Machine.Commits.{lockable, registered, has_number, has_pair, commit_names, commit_touches, has_flipped, waited_fences, previous, second_previous, if_there, is_claimed, is_hw_done, is_cleaned, is_all_written, is_all_flushed, is_all_latched}
+use Rattle.kms_model.specs.Machine.Commits.{lockable, registered, has_number, has_pair, commit_names, commit_touches, has_flipped}
+use Rattle.kms_model.specs.Machine.Commits.{waited_fences, previous, second_previous, if_there, is_claimed, is_hw_done, is_cleaned}
+use Rattle.kms_model.specs.Machine.Commits.{is_all_written, is_all_flushed, is_all_latched}
 use Rattle.kms_model.specs.Machine.Registers.{is_on_in}
-use Rattle.kms_model.specs.Machine.State.{Machine, Events, DeviceState, doing_at, command_at, request_at, holder_at, has_value, holds, go_at, reserved_at, unread_at}
+use Rattle.kms_model.specs.Machine.State.{Machine, Events, DeviceState, doing_at, command_at, request_at, holder_at, has_value, holds}
+use Rattle.kms_model.specs.Machine.State.{go_at, reserved_at, unread_at}
 
 -- What a client is doing
 
@@ -130,7 +135,8 @@ lacks_space t m client r =
 -- the last commit that touched an object, where there is one, has not flipped for it
 unfoldable pub is_pending : Topology → Machine → ℕ → Bool
 is_pending t m object =
-    not (if_there (λ k. has_flipped t m.device.commits m.records.latches k object) (previous t m.device.commits (length m.device.commits) object))
+    not (if_there (λ k. has_flipped t m.device.commits m.records.latches k object)
+    (previous t m.device.commits (length m.device.commits) object))
 
 -- the first object, by id, that a request touches and that is pending
 unfoldable pub first_pending : Topology → Machine → Request → Option ℕ
@@ -165,14 +171,16 @@ may_test t m client r = is_test r.flags && (holds_touched t m client r && is_acc
 
 unfoldable pub may_swap : Topology → Machine → ℕ → Request → Bool
 may_swap t m client r =
-    not (is_test r.flags) && (holds_touched t m client r && (is_accepted_at t m r && (not (is_refused_late t m client r) && is_ready t m r)))
+    not (is_test r.flags) && (holds_touched t m client r
+    && (is_accepted_at t m r && (not (is_refused_late t m client r) && is_ready t m r)))
 
 -- The tail of a commit
 
 -- the last commit before one that touched an object, where there is one, has hw_done and has flipped for the object
 abbrev pub is_settled_for : Topology → Machine → ℕ → ℕ → Bool
 is_settled_for t m k object =
-    if_there (λ j. is_hw_done m.device j && has_flipped t m.device.commits m.records.latches j object) (previous t m.device.commits k object)
+    if_there (λ j. is_hw_done m.device j && has_flipped t m.device.commits m.records.latches j object)
+    (previous t m.device.commits k object)
 
 unfoldable pub may_claim : Topology → Machine → ℕ → Bool
 may_claim t m k =
@@ -213,7 +221,8 @@ may s m (Claim k) = may_claim s.topology m k
 may s m (Write k kind index) =
     is_claimed m.device k && (exists s.topology kind index && has_value (object_id kind index) (next_write s.topology m.device k))
 may s m (Flush k kind index) =
-    is_all_written s.topology m.device k && (exists s.topology kind index && has_value (object_id kind index) (next_flush s.topology m.device k))
+    is_all_written s.topology m.device k && (exists s.topology kind index
+    && has_value (object_id kind index) (next_flush s.topology m.device k))
 may s m (HwDone k) =
     is_claimed m.device k && (is_all_written s.topology m.device k && (is_all_flushed s.topology m.device k && not (is_hw_done m.device k)))
 may s m (Vblank kind index) =

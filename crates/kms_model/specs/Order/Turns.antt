@@ -1,6 +1,7 @@
 -- The order in which one thread does the steps of all actors: what a client does in its turn, and how the tails of commits
 -- settle. This device's own.
-use Rattle.std.specs.Prelude.{ℕ, zero, suc, ◌+◌, ◌*◌, ◌&&◌, not, Bool, true, false, List, [], ◌∷◌, length, filter, find, Option, Some, None, if◌then◌else◌}
+use Rattle.std.specs.Prelude.{ℕ, zero, suc, ◌+◌, ◌*◌, ◌&&◌, not, Bool, true, false, List, [], ◌∷◌, length, filter, find, Option, Some, None}
+use Rattle.std.specs.Prelude.{if◌then◌else◌}
 use Rattle.std.specs.Option.{option_map, option_and_then}
 use Rattle.kms_model.specs.declared.objects.Topology.{Topology}
 use Rattle.kms_model.specs.declared.replies.Step.{Step}
@@ -69,7 +70,8 @@ lock_step client object = Lock client (kind_of object) (index_of object)
 unfoldable pub client_step : Script → Machine → ℕ → Option Step
 client_step s m client =
     or_else
-    (find (legal s m) (Refuse client ∷ Test client ∷ Swap client ∷ Begin client ∷ Make client ∷ Signal client ∷ Read client ∷ BackOff client ∷ Relock client ∷ []))
+    (find (legal s m) (Refuse client ∷ Test client ∷ Swap client ∷ Begin client ∷ Make client ∷ Signal client ∷ Read client ∷ BackOff client
+    ∷ Relock client ∷ []))
     (option_map (lock_step client) (option_and_then (next_lock s m client) (request_at s m client)))
 
 -- a step that answers its client's command
@@ -101,7 +103,8 @@ most_of_turn t = length (lockable t) + 4
 -- first CRTC that has GO.
 unfoldable pub tail_step : Script → Machine → Option Step
 tail_step s m =
-    or_else (first_some (λ k. find (legal s m) (steps_of_commit s.topology k)) (commit_numbers m)) (find (legal s m) (steps_with_go s.topology m))
+    or_else (first_some (λ k. find (legal s m) (steps_of_commit s.topology k)) (commit_numbers m))
+    (find (legal s m) (steps_with_go s.topology m))
 
 -- the tails settle: steps of tails are done as long as there is one, at most so many
 unfoldable pub tails_go : Script → ℕ → Progress → Progress

@@ -1,6 +1,7 @@
 -- When the other lines of a report are right; and the first line, of a report or of bytes, that is not the device's. This
 -- device's own.
-use Rattle.std.specs.Prelude.{ℕ, ◌+◌, Bool, true, false, not, ◌&&◌, ◌==◌, nat_lt, nat_le, List, [], ◌∷◌, ◌++◌, length, map, filter, slice_get, is_some, Option, Some, None, option_map, Result, Ok, Err}
+use Rattle.std.specs.Prelude.{ℕ, ◌+◌, Bool, true, false, not, ◌&&◌, ◌==◌, nat_lt, nat_le, List, [], ◌∷◌, ◌++◌, length, map, filter}
+use Rattle.std.specs.Prelude.{slice_get, is_some, Option, Some, None, option_map, Result, Ok, Err}
 use Rattle.std.specs.List.{enumerate_from, filter_map, find, last_or, list_all, list_any, position, range_with_len}
 use Rattle.std.specs.Option.{option_map_or}
 use Rattle.std.specs.Str.{bytes_eq}
@@ -27,7 +28,8 @@ use Rattle.kms_model.specs.Device.World.{thing_labelled, thing_with_id}
 use Rattle.kms_model.specs.Machine.Commits.{has_number}
 use Rattle.kms_model.specs.Machine.Histories.{is_made_by_command}
 use Rattle.kms_model.specs.Report.ReportLines.{report_read}
-use Rattle.kms_model.specs.Report.RightAnswers.{first_off, entries_in, entry_is_right, commits_of, answers_in, has_answer, same_event, answer_is_right, answers_are_whole}
+use Rattle.kms_model.specs.Report.RightAnswers.{first_off, entries_in, entry_is_right, commits_of, answers_in, has_answer, same_event}
+use Rattle.kms_model.specs.Report.RightAnswers.{answer_is_right, answers_are_whole}
 use Rattle.kms_model.specs.Report.SeenReport.{digest_shown}
 use Rattle.kms_model.specs.Script.Spelling.{name_word}
 

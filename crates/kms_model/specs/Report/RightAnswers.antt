@@ -1,6 +1,7 @@
 -- When the J and R lines of a report are right, by the device of one thread: each entry of the journal is accepted after those
 -- before it, and each reply is that device's at its place. This device's own.
-use Rattle.std.specs.Prelude.{ℕ, ◌+◌, ◌*◌, ◌%◌, Bool, true, false, not, ◌&&◌, ◌||◌, ◌==◌, nat_lt, nat_le, List, [], ◌∷◌, ◌++◌, length, map, reverse, take, is_none, is_some, Option, Some, None, option_map, if◌then◌else◌}
+use Rattle.std.specs.Prelude.{ℕ, ◌+◌, ◌*◌, ◌%◌, Bool, true, false, not, ◌&&◌, ◌||◌, ◌==◌, nat_lt, nat_le, List, [], ◌∷◌, ◌++◌, length, map}
+use Rattle.std.specs.Prelude.{reverse, take, is_none, is_some, Option, Some, None, option_map, if◌then◌else◌}
 use Rattle.std.specs.List.{last_or, list_all, list_any, position}
 use Rattle.std.specs.Option.{option_map_or}
 use Rattle.kms_model.specs.declared.objects.Topology.{Topology}

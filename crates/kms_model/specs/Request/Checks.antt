@@ -1,7 +1,8 @@
 -- The refusals of the state after a request. Their numbers and their order are this device's own. From:
 -- `drm_atomic.c`, drm_atomic_plane_check, drm_atomic_crtc_check; `drm_atomic_helper.c`,
 -- drm_atomic_helper_check_modeset, drm_atomic_helper_check_plane_state.
-use Rattle.std.specs.Prelude.{ℕ, ◌+◌, ◌-◌, ◌*◌, ◌%◌, Bool, true, false, not, ◌&&◌, ◌||◌, ◌==◌, nat_lt, ℤ, pos, ◌+ℤ◌, int_lt, List, [], ◌∷◌, length, filter, is_none, is_some, Option, Some, None, if◌then◌else◌}
+use Rattle.std.specs.Prelude.{ℕ, ◌+◌, ◌-◌, ◌*◌, ◌%◌, Bool, true, false, not, ◌&&◌, ◌||◌, ◌==◌, nat_lt, ℤ, pos, ◌+ℤ◌, int_lt, List, [], ◌∷◌}
+use Rattle.std.specs.Prelude.{length, filter, is_none, is_some, Option, Some, None, if◌then◌else◌}
 use Rattle.std.specs.List.{list_any}
 use Rattle.std.specs.Ordering.{int_eq}
 use Rattle.kms_model.specs.declared.objects.Kind.TheVariants.{Crtc, Plane, Conn}
@@ -15,7 +16,11 @@ use Rattle.kms_model.specs.declared.scripts.Request.{Request}
 use Rattle.kms_model.specs.declared.states.PlaneState.{PlaneState}
 use Rattle.kms_model.specs.declared.worlds.Setting.{Setting}
 use Rattle.kms_model.specs.declared.worlds.Thing.{Thing}
-use Rattle.kms_model.specs.declared.replies.TheConstants.Refusal.{EVENT_WITHOUT_CRTC, FRAMEBUFFER_XOR_CRTC, CRTC_NOT_POSSIBLE, FORMAT_NOT_SUPPORTED, DESTINATION_TOO_FAR, SOURCE_OUTSIDE_FRAMEBUFFER, SWITCHES_CRTC, ACTIVE_WITHOUT_MODE, SIGNAL_WHILE_OFF, CONNECTOR_NOT_POSSIBLE, CLONED_CONNECTORS, MODE_XOR_CONNECTOR, CRTC_NOT_ENABLED, SCALED, FRACTIONAL_SOURCE, MODESET_NOT_ALLOWED}
+use Rattle.kms_model.specs.declared.replies.TheConstants.Refusal.{EVENT_WITHOUT_CRTC, FRAMEBUFFER_XOR_CRTC, CRTC_NOT_POSSIBLE}
+use Rattle.kms_model.specs.declared.replies.TheConstants.Refusal.{FORMAT_NOT_SUPPORTED, DESTINATION_TOO_FAR, SOURCE_OUTSIDE_FRAMEBUFFER}
+use Rattle.kms_model.specs.declared.replies.TheConstants.Refusal.{SWITCHES_CRTC, ACTIVE_WITHOUT_MODE, SIGNAL_WHILE_OFF}
+use Rattle.kms_model.specs.declared.replies.TheConstants.Refusal.{CONNECTOR_NOT_POSSIBLE, CLONED_CONNECTORS, MODE_XOR_CONNECTOR}
+use Rattle.kms_model.specs.declared.replies.TheConstants.Refusal.{CRTC_NOT_ENABLED, SCALED, FRACTIONAL_SOURCE, MODESET_NOT_ALLOWED}
 use Rattle.kms_model.specs.Firsts.{or_else, first_some, refused_if}
 use Rattle.kms_model.specs.Request.Flags.{wants_event, allows_modeset}
 use Rattle.kms_model.specs.Script.Grammar.{format_bit}
@@ -115,7 +120,8 @@ abbrev pub plane_refusal_at : List Thing → List Setting → List Setting → �
 plane_refusal_at things old new p = plane_refusal p.1 (plane_at things old p.0) (plane_at things new p.0)
 
 abbrev pub crtc_refusal_at : List Thing → List Setting → List Setting → Request → ℕ → Option ℕ
-crtc_refusal_at things old new r crtc = crtc_refusal (asks_signal old new r crtc) (is_active old crtc) (is_active new crtc) (mode_at things new crtc)
+crtc_refusal_at things old new r crtc = crtc_refusal (asks_signal old new r crtc) (is_active old crtc) (is_active new crtc)
+    (mode_at things new crtc)
 
 abbrev pub conn_refusal_at : List Setting → ℕ × ℕ → Option ℕ
 conn_refusal_at new c = conn_refusal c.1 (crtc_at new c.0)
@@ -126,7 +132,8 @@ clone_refusal_at t new crtc = refused_if CLONED_CONNECTORS (nat_lt 1 (length (co
 
 -- 20: the CRTC has a mode and no connector, or a connector and no mode
 abbrev pub route_refusal_at : Topology → List Thing → List Setting → ℕ → Option ℕ
-route_refusal_at t things new crtc = refused_if MODE_XOR_CONNECTOR (differs (is_some (mode_at things new crtc)) (nat_lt 0 (length (conns_on t new crtc))))
+route_refusal_at t things new crtc = refused_if MODE_XOR_CONNECTOR
+    (differs (is_some (mode_at things new crtc)) (nat_lt 0 (length (conns_on t new crtc))))
 
 abbrev pub shown_refusal_at : ℕ → List Thing → List Setting → ℕ → Option ℕ
 shown_refusal_at profile things new plane = let s = plane_at things new plane in shown_refusal profile (mode_at things new s.crtc) s
@@ -137,7 +144,8 @@ event_refusal t old new r = refused_if EVENT_WITHOUT_CRTC (wants_event r.flags &
 
 -- 24: a CRTC needs a modeset and ALLOW_MODESET is not set
 abbrev pub modeset_refusal : Topology → List Thing → List Setting → List Setting → ℕ → Option ℕ
-modeset_refusal t things old new flags = refused_if MODESET_NOT_ALLOWED (not (allows_modeset flags) && list_any (needs_modeset t things old new) (ids_of t Crtc))
+modeset_refusal t things old new flags = refused_if MODESET_NOT_ALLOWED
+    (not (allows_modeset flags) && list_any (needs_modeset t things old new) (ids_of t Crtc))
 
 -- the first late refusal of a request that makes new values of old ones: all objects of the device are tried
 unfoldable pub late_refusal : Topology → List Thing → List Setting → List Setting → Request → Option ℕ

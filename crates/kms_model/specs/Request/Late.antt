@@ -1,7 +1,8 @@
 -- The late refusals of duplicated states: those of the objects of a set, in the order of their indices. From:
 -- `drm_atomic.c`, drm_atomic_check_only; `drm_atomic_helper.c`, drm_atomic_helper_check_modeset,
 -- drm_atomic_helper_check_planes.
-use Rattle.std.specs.Prelude.{ℕ, ◌-◌, ◌<◌, Bool, false, not, ◌&&◌, ◌||◌, ◌==◌, nat_lt, List, length, filter, is_some, slice_get, Option, Some, None, IfSome, if◌then◌else◌}
+use Rattle.std.specs.Prelude.{ℕ, ◌-◌, ◌<◌, Bool, false, not, ◌&&◌, ◌||◌, ◌==◌, nat_lt, List, length, filter, is_some, slice_get, Option}
+use Rattle.std.specs.Prelude.{Some, None, IfSome, if◌then◌else◌}
 use Rattle.std.specs.List.{list_any, range_with_len}
 use Rattle.std.specs.Option.{option_and_then}
 use Rattle.kms_model.specs.Device.Places.{state_at}
@@ -14,7 +15,8 @@ use Rattle.kms_model.specs.declared.states.CrtcState.{CrtcState}
 use Rattle.kms_model.specs.declared.states.Duplicates.{Duplicates}
 use Rattle.kms_model.specs.declared.states.Mask.{Mask}
 use Rattle.kms_model.specs.declared.states.PlaneState.{PlaneState}
-use Rattle.kms_model.specs.declared.replies.TheConstants.Refusal.{EVENT_WITHOUT_CRTC, CLONED_CONNECTORS, MODE_XOR_CONNECTOR, MODESET_NOT_ALLOWED}
+use Rattle.kms_model.specs.declared.replies.TheConstants.Refusal.{EVENT_WITHOUT_CRTC, CLONED_CONNECTORS, MODE_XOR_CONNECTOR}
+use Rattle.kms_model.specs.declared.replies.TheConstants.Refusal.{MODESET_NOT_ALLOWED}
 use Rattle.kms_model.specs.Firsts.{or_else, first_some, refused_if}
 use Rattle.kms_model.specs.Request.Flags.{wants_event, allows_modeset}
 use Rattle.kms_model.specs.Device.Masks.{has_bit}
@@ -37,7 +39,8 @@ plane_refusal_of t index both = option_and_then (λ info. plane_refusal info bot
 
 -- `named` and `fenced` are the CRTCs that the request names, and those for which it asks for an out-fence
 abbrev pub crtc_refusal_of : ℕ → ℕ → ℕ → ℕ → Both CrtcState → Option ℕ
-crtc_refusal_of flags named fenced index both = crtc_refusal (has_bit named index && (wants_event flags || has_bit fenced index)) both.old.active both.new.active both.new.mode
+crtc_refusal_of flags named fenced index both = crtc_refusal (has_bit named index && (wants_event flags || has_bit fenced index))
+    both.old.active both.new.active both.new.mode
 
 abbrev pub conn_refusal_of : Topology → ℕ → Both ConnState → Option ℕ
 conn_refusal_of t index both = option_and_then (λ possible. conn_refusal possible both.new.crtc) (slice_get t.conns index)
@@ -57,7 +60,8 @@ shown_refusal_of profile crtcs both = shown_refusal profile (new_mode crtcs both
 
 -- a CRTC that goes from one state to another needs a modeset
 abbrev pub needs_modeset_between : Both CrtcState → Bool
-needs_modeset_between both = not (same_mode both.old.mode both.new.mode) || (differs both.old.active both.new.active || not (both.old.conns == both.new.conns))
+needs_modeset_between both = not (same_mode both.old.mode both.new.mode)
+    || (differs both.old.active both.new.active || not (both.old.conns == both.new.conns))
 
 abbrev pub needs_modeset_if : Option (Both CrtcState) → Bool
 needs_modeset_if None = false
@@ -68,7 +72,8 @@ abbrev pub first_in : {S : Type 0} → ℕ → List (Option (Both S)) → (ℕ �
 first_in mask states f n = first_some (λ index. option_and_then (f index) (duplicate_in mask states index)) (range_with_len 0 n)
 
 abbrev pub needs_any_modeset : Topology → Duplicates → Mask → Bool
-needs_any_modeset t d objects = list_any (λ index. needs_modeset_if (duplicate_in objects.crtcs d.crtcs index)) (range_with_len 0 (count_of t Crtc))
+needs_any_modeset t d objects = list_any (λ index. needs_modeset_if (duplicate_in objects.crtcs d.crtcs index))
+    (range_with_len 0 (count_of t Crtc))
 
 -- the first late refusal of a set of objects
 unfoldable pub late_of_states : Topology → Duplicates → Mask → ℕ → ℕ → ℕ → Option ℕ
@@ -84,4 +89,5 @@ late_of_states t d objects flags named fenced =
 
 -- the numbers of the planes of a set are in the ranges of their properties
 abbrev pub ArePlanesInRange : Topology → Duplicates → ℕ → Type 0
-ArePlanesInRange t d planes = (index : ℕ) → index < count_of t Plane → IfSome (duplicate_in planes d.planes index) (λ both. IsPlaneInRange both.new)
+ArePlanesInRange t d planes = (index : ℕ) → index < count_of t Plane
+    → IfSome (duplicate_in planes d.planes index) (λ both. IsPlaneInRange both.new)

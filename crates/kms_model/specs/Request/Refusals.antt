@@ -18,7 +18,8 @@ use Rattle.kms_model.specs.declared.scripts.Value.{Value}
 use Rattle.kms_model.specs.declared.scripts.Value.TheVariants.{Num, Named, New, Crtc}
 use Rattle.kms_model.specs.declared.worlds.Look.{Look}
 use Rattle.kms_model.specs.declared.worlds.Look.TheVariants as look
-use Rattle.kms_model.specs.declared.replies.TheConstants.Refusal.{UNKNOWN_FLAG, ASYNC_FLIP, TEST_WITH_EVENT, NO_OBJECT, NO_PROPERTY, IMMUTABLE_PROPERTY, INVALID_VALUE, SECOND_IN_FENCE}
+use Rattle.kms_model.specs.declared.replies.TheConstants.Refusal.{UNKNOWN_FLAG, ASYNC_FLIP, TEST_WITH_EVENT, NO_OBJECT, NO_PROPERTY}
+use Rattle.kms_model.specs.declared.replies.TheConstants.Refusal.{IMMUTABLE_PROPERTY, INVALID_VALUE, SECOND_IN_FENCE}
 use Rattle.kms_model.specs.Firsts.{or_else, refused_if}
 use Rattle.kms_model.specs.Request.Flags.{wants_event, is_async, is_test}
 use Rattle.kms_model.specs.Device.Objects.{exists}

@@ -77,7 +77,8 @@ touched_by t w r = touched_set t w.things w.values (after w r) r.assigns
 -- the last value that a request sets a property of an object to
 abbrev pub last_value : List Assign → ℕ → ℕ → Option Value
 last_value [] object prop = None
-last_value (a ∷ assigns) object prop = or_else (last_value assigns object prop) (value_if ((object_of a == object) && (prop_of a.prop == prop)) a.value)
+last_value (a ∷ assigns) object prop = or_else (last_value assigns object prop)
+    (value_if ((object_of a == object) && (prop_of a.prop == prop)) a.value)
 
 -- the label of the fence that is to be made, if any
 abbrev pub new_label : Option Value → Option ℕ

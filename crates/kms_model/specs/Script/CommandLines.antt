@@ -1,5 +1,6 @@
 -- The lines of commands: the command that a line spells, after the lines before it.
-use Rattle.std.specs.Prelude.{ℕ, ◌+◌, ◌*◌, zero, suc, Bool, true, false, ◌||◌, nat_lt, List, [], ◌∷◌, length, map, Option, Some, None, option_map, Result, Ok, Err, if◌then◌else◌, codes}
+use Rattle.std.specs.Prelude.{ℕ, ◌+◌, ◌*◌, zero, suc, Bool, true, false, ◌||◌, nat_lt, List, [], ◌∷◌, length, map, Option, Some, None}
+use Rattle.std.specs.Prelude.{option_map, Result, Ok, Err, if◌then◌else◌, codes}
 use Rattle.std.specs.List.{position_or_len}
 use Rattle.std.specs.Option.{option_map_or}
 use Rattle.std.specs.Str.{bytes_eq}
@@ -17,7 +18,8 @@ use Rattle.kms_model.specs.declared.scripts.Value.{Value}
 use Rattle.kms_model.specs.declared.scripts.Value.TheVariants as value
 use Rattle.kms_model.specs.declared.scripts.Why.{Why}
 use Rattle.kms_model.specs.declared.scripts.Why.TheVariants.{Form, Label, Limit}
-use Rattle.kms_model.specs.Script.Grammar.{field_words, int, hex_at, pixel_at, blob_bytes, format_at, object, is_property_word, known_property}
+use Rattle.kms_model.specs.Script.Grammar.{field_words, int, hex_at, pixel_at, blob_bytes, format_at, object, is_property_word}
+use Rattle.kms_model.specs.Script.Grammar.{known_property}
 use Rattle.kms_model.specs.Script.Words.{◌>>=◌, until, from, between, strip, dec, is_label, field_at, dec_at, label_at, name_at, end_at}
 
 -- Names
@@ -62,7 +64,13 @@ unfoldable pub saying : List ℕ → Names → Names
 saying word names = record names { all = said word names.all }
 
 unfoldable pub making : List ℕ → Names → Names
-making word names = record { profile = names.profile; all = made word names.all; made = names.made + 1; is_twice = names.is_twice || was_made word names.all }
+making word names = record {
+  profile = names.profile;
+  all = made word names.all;
+  made = names.made + 1;
+  is_twice = names.is_twice
+      || was_made word names.all;
+}
 
 -- the words of all names, as a script has them
 abbrev pub words_in : Names → List (List ℕ)
@@ -223,13 +231,16 @@ assign_words word = do
 
 -- the property of a name
 unfoldable pub property_read : Names → List ℕ → PropRef × Names
-property_read names word = option_map_or (λ id. (Known id, names)) (known_property names.profile word) (Unknown (place word names), saying word names)
+property_read names word = option_map_or (λ id. (Known id, names)) (known_property names.profile word)
+    (Unknown (place word names), saying word names)
 
 -- `@LABEL`, `+LABEL`, `crtc` with an index to 255, or a number
 unfoldable pub value_read : Names → List ℕ → Option (Value × Names)
 value_read names word =
-    option_map_or (λ label. if is_label label then Some (value.Named (place label names), saying label names) else None) (strip (codes "@") word)
-    (option_map_or (λ label. if is_label label then Some (value.New (place label names), making label names) else None) (strip (codes "+") word)
+    option_map_or (λ label. if is_label label then Some (value.Named (place label names), saying label names) else None)
+    (strip (codes "@") word)
+    (option_map_or (λ label. if is_label label then Some (value.New (place label names), making label names) else None)
+    (strip (codes "+") word)
     (option_map_or (λ digits. option_map (λ i. (value.Crtc i, names)) (dec 255 digits)) (strip (codes "crtc") word)
     (option_map (λ z. (value.Num z, names)) (int word))))
 

@@ -1,6 +1,7 @@
 -- Generated scripts: two clients that flip their own planes, by the numbers of a linear congruential generator. This
 -- device's own.
-use Rattle.std.specs.Prelude.{ℕ, zero, suc, ◌+◌, ◌-◌, ◌*◌, ◌/◌, ◌%◌, ◌^◌, ◌==◌, List, [], ◌∷◌, ◌++◌, map, codes, pos, replicate, if◌then◌else◌}
+use Rattle.std.specs.Prelude.{ℕ, zero, suc, ◌+◌, ◌-◌, ◌*◌, ◌/◌, ◌%◌, ◌^◌, ◌==◌, List, [], ◌∷◌, ◌++◌, map, codes, pos, replicate}
+use Rattle.std.specs.Prelude.{if◌then◌else◌}
 use Rattle.std.specs.List.{flat_map}
 use Rattle.kms_model.specs.declared.flags.TheConstants.{PAGE_FLIP_EVENT, ALLOW_MODESET}
 use Rattle.kms_model.specs.declared.objects.Format.TheVariants.{Xr24}
@@ -114,7 +115,13 @@ commands_for drawn crtc =
 
 -- two CRTCs, each with a primary plane and a connector of its own
 abbrev pub generated_device : Topology
-generated_device = record { profile = 1; crtcs = 2; planes = record { kind = 1; crtcs = 1; formats = 1 } ∷ record { kind = 1; crtcs = 2; formats = 1 } ∷ []; conns = 1 ∷ 2 ∷ [] }
+generated_device = record {
+  profile = 1;
+  crtcs = 2;
+  planes = record { kind = 1; crtcs = 1; formats = 1 }
+      ∷ record { kind = 1; crtcs = 2; formats = 1 } ∷ [];
+  conns = 1 ∷ 2 ∷ [];
+}
 
 -- the script of a seed with a number of commits
 abbrev pub generated : ℕ → ℕ → Script

@@ -1,6 +1,7 @@
 -- The words of the whole grammar of scripts: numbers, colours, objects, lists parted by commas, and hexadecimal bytes.
 -- Each value has one spelling.
-use Rattle.std.specs.Prelude.{ℕ, ◌+◌, ◌-◌, ◌*◌, ◌^◌, Bool, false, ◌&&◌, ◌||◌, ◌==◌, nat_le, List, [], ◌∷◌, length, Option, Some, None, option_map, ℤ, pos, neg_ℤ, if◌then◌else◌, codes}
+use Rattle.std.specs.Prelude.{ℕ, ◌+◌, ◌-◌, ◌*◌, ◌^◌, Bool, false, ◌&&◌, ◌||◌, ◌==◌, nat_le, List, [], ◌∷◌, length, Option, Some, None}
+use Rattle.std.specs.Prelude.{option_map, ℤ, pos, neg_ℤ, if◌then◌else◌, codes}
 use Rattle.std.specs.List.{list_all, slice_split}
 use Rattle.std.specs.Option.{option_map_or}
 use Rattle.std.specs.Str.{bytes_eq}
@@ -134,4 +135,5 @@ is_property_word word = between 1 32 (length word) && list_all is_property_byte 
 
 -- the id of the property of a name, which some kind of object has in a profile
 abbrev pub known_property : ℕ → List ℕ → Option ℕ
-known_property profile name = or_else (property_id profile Plane name) (or_else (property_id profile Crtc name) (property_id profile Conn name))
+known_property profile name = or_else (property_id profile Plane name)
+    (or_else (property_id profile Crtc name) (property_id profile Conn name))

@@ -1,10 +1,12 @@
 -- Inputs in which a schedule or a report follows the script: the steps that lines spell, and the first fault.
-use Rattle.std.specs.Prelude.{◌≡◌, ℕ, ◌+◌, ◌≤◌, Bool, true, false, not, ◌&&◌, nat_lt, List, [], ◌∷◌, ◌++◌, length, Option, Some, None, Result, Ok, Err, codes, if◌then◌else◌, ⊤}
+use Rattle.std.specs.Prelude.{◌≡◌, ℕ, ◌+◌, ◌≤◌, Bool, true, false, not, ◌&&◌, nat_lt, List, [], ◌∷◌, ◌++◌, length, Option, Some, None}
+use Rattle.std.specs.Prelude.{Result, Ok, Err, codes, if◌then◌else◌, ⊤}
 use Rattle.std.specs.List.{list_all}
 use Rattle.std.specs.Str.{bytes_eq}
 use Rattle.kms_model.specs.declared.objects.Kind.{Kind}
 use Rattle.kms_model.specs.declared.replies.Step.{Step}
-use Rattle.kms_model.specs.declared.replies.Step.TheVariants.{Begin, Lock, BackOff, Relock, Refuse, Test, Swap, Make, Signal, Claim, Write, Flush, HwDone, Vblank, Cleanup, Read, Return, Stall}
+use Rattle.kms_model.specs.declared.replies.Step.TheVariants.{Begin, Lock, BackOff, Relock, Refuse, Test, Swap, Make, Signal, Claim, Write}
+use Rattle.kms_model.specs.declared.replies.Step.TheVariants.{Flush, HwDone, Vblank, Cleanup, Read, Return, Stall}
 use Rattle.kms_model.specs.declared.scripts.Part.{Part}
 use Rattle.kms_model.specs.declared.scripts.Part.TheVariants as part
 use Rattle.kms_model.specs.declared.scripts.Script.{Script}
@@ -176,7 +178,8 @@ behind_script p size d line row rows = with_schedule size d (steps_in (line + 1)
 -- The lines end without that line: a report is demanded, a schedule is not.
 abbrev pub at_end_of_lines : Part → ℕ → Draft → ℕ → Result Parts Fault
 at_end_of_lines part.Report size d line = Err (missing_line line)
-at_end_of_lines p size d line = if is_nil d.conns then Err (missing_line line) else Ok (record { script = script_in d; steps = []; rest = size })
+at_end_of_lines p size d line = if is_nil d.conns then Err (missing_line line)
+    else Ok (record { script = script_in d; steps = []; rest = size })
 
 -- lines that follow lines, of an input of a size
 unfoldable pub parts_after : Part → ℕ → Draft → ℕ → List Row → Result Parts Fault

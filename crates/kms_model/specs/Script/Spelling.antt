@@ -1,5 +1,6 @@
 -- The text that spells a script: each value has one spelling.
-use Rattle.std.specs.Prelude.{◌≡◌, ℕ, zero, suc, ◌/◌, ◌%◌, ◌&&◌, false, List, [], ◌∷◌, ◌++◌, filter, map, get_or, Option, Some, None, option_map, Ok, Err, if◌then◌else◌, codes}
+use Rattle.std.specs.Prelude.{◌≡◌, ℕ, zero, suc, ◌/◌, ◌%◌, ◌&&◌, false, List, [], ◌∷◌, ◌++◌, filter, map, get_or, Option, Some, None}
+use Rattle.std.specs.Prelude.{option_map, Ok, Err, if◌then◌else◌, codes}
 use Rattle.std.specs.Fmt.{decimal, signed_decimal, digits, digit_glyph}
 use Rattle.std.specs.List.{flat_map, join_with_byte, list_all, range_with_len}
 use Rattle.std.specs.Option.{option_map_or}
@@ -92,7 +93,8 @@ value_word names (value.Crtc index) = codes "crtc" ++ decimal index
 
 -- `OBJ.PROP=VALUE`
 abbrev pub assign_word : List (List ℕ) → Assign → List ℕ
-assign_word names a = kind_name a.kind ++ decimal a.index ++ codes "." ++ property_word names a.prop ++ codes "=" ++ value_word names a.value
+assign_word names a = kind_name a.kind ++ decimal a.index ++ codes "." ++ property_word names a.prop ++ codes "="
+    ++ value_word names a.value
 
 -- Commands: the words of a line
 

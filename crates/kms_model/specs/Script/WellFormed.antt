@@ -1,5 +1,6 @@
 -- What holds of every script that some bytes spell, within the limits.
-use Rattle.std.specs.Prelude.{◌≡◌, ◌≤◌, ℕ, ◌-◌, ◌*◌, ◌^◌, ◌==◌, ◌&&◌, Bool, true, not, nat_le, nat_lt, List, ◌++◌, length, replicate, is_some, ℤ, pos, negsuc, int_le, ⊤}
+use Rattle.std.specs.Prelude.{◌≡◌, ◌≤◌, ℕ, ◌-◌, ◌*◌, ◌^◌, ◌==◌, ◌&&◌, Bool, true, not, nat_le, nat_lt, List, ◌++◌, length, replicate}
+use Rattle.std.specs.Prelude.{is_some, ℤ, pos, negsuc, int_le, ⊤}
 use Rattle.std.specs.List.{AllByRecursion, IsDistinct, list_all}
 use Rattle.std.specs.Str.{bytes_eq}
 use Rattle.kms_model.specs.declared.objects.Format.{Format}
@@ -42,7 +43,8 @@ is_label_in names n = is_label (name_word names n)
 -- the property of an id that a profile has, or a name among the names that no property of it has
 abbrev pub is_property_in : ℕ → List (List ℕ) → PropRef → Bool
 is_property_in profile names (Known id) = is_some (property_in profile id)
-is_property_in profile names (Unknown n) = is_property_word (name_word names n) && not (is_some (known_property profile (name_word names n)))
+is_property_in profile names (Unknown n) = is_property_word (name_word names n)
+    && not (is_some (known_property profile (name_word names n)))
 
 -- Values
 
@@ -60,12 +62,14 @@ abbrev pub is_pattern_of : Format → ℕ → ℕ → Pattern → Bool
 is_pattern_of format width height (Solid p) = is_pixel_of format p
 is_pattern_of format width height (Checker p q n) = is_pixel_of format p && (is_pixel_of format q && between 1 4096 n)
 is_pattern_of format width height Ramp = true
-is_pattern_of format width height (Pixels words) = between 1 256 (width * height) && ((length words == width * height) && list_all (is_pixel_of format) words)
+is_pattern_of format width height (Pixels words) = between 1 256 (width * height)
+    && ((length words == width * height) && list_all (is_pixel_of format) words)
 
 -- a name of 1 to 31 bytes, filled with zeros up to 32
 abbrev pub is_mode_name : List ℕ → Bool
 is_mode_name name =
-    between 1 31 (length (until 0 name)) && (list_all is_name_byte (until 0 name) && bytes_eq name (until 0 name ++ replicate (32 - length (until 0 name)) 0))
+    between 1 31 (length (until 0 name)) && (list_all is_name_byte (until 0 name)
+    && bytes_eq name (until 0 name ++ replicate (32 - length (until 0 name)) 0))
 
 -- numbers below 2^16
 abbrev pub is_word16 : ℕ → Bool
@@ -97,15 +101,18 @@ is_assign_in profile names a = nat_le a.index 255 && (is_property_in profile nam
 
 -- a command that some words spell, of a script with a profile
 abbrev pub is_command_in : ℕ → List (List ℕ) → Command → Bool
-is_command_in profile names (command.Buffer label width height format pattern) = is_label_in names label && (is_word32 width && (is_word32 height && is_pattern_of format width height pattern))
+is_command_in profile names (command.Buffer label width height format pattern) = is_label_in names label
+    && (is_word32 width && (is_word32 height && is_pattern_of format width height pattern))
 is_command_in profile names (command.AddFb label buffer) = is_label_in names label && is_label_in names buffer
 is_command_in profile names (command.Mode label m) = is_label_in names label && (has_widths m && is_mode_name m.name)
-is_command_in profile names (command.Blob label bytes) = is_label_in names label && (between 1 2048 (length bytes) && list_all (λ b. nat_lt b 256) bytes)
+is_command_in profile names (command.Blob label bytes) = is_label_in names label
+    && (between 1 2048 (length bytes) && list_all (λ b. nat_lt b 256) bytes)
 is_command_in profile names (command.Destroy label) = is_label_in names label
 is_command_in profile names (command.CloseFb label) = is_label_in names label
 is_command_in profile names (command.Fence label) = is_label_in names label
 is_command_in profile names (command.Signal label) = is_label_in names label
-is_command_in profile names (command.Atomic r) = is_word32 r.flags && (nat_lt r.user_data (2 ^ 64) && list_all (is_assign_in profile names) r.assigns)
+is_command_in profile names (command.Atomic r) = is_word32 r.flags
+    && (nat_lt r.user_data (2 ^ 64) && list_all (is_assign_in profile names) r.assigns)
 is_command_in profile names command.Wait = true
 
 -- a plane that can be shown on a CRTC and takes a format

@@ -1,5 +1,6 @@
 -- The script that a whole input spells, or its first fault.
-use Rattle.std.specs.Prelude.{ℕ, ◌+◌, Bool, true, false, not, ◌&&◌, ◌||◌, ◌==◌, nat_lt, nat_le, List, [], ◌∷◌, ◌++◌, length, Option, Some, None, is_some, Result, Ok, Err, if◌then◌else◌, codes}
+use Rattle.std.specs.Prelude.{ℕ, ◌+◌, Bool, true, false, not, ◌&&◌, ◌||◌, ◌==◌, nat_lt, nat_le, List, [], ◌∷◌, ◌++◌, length, Option, Some}
+use Rattle.std.specs.Prelude.{None, is_some, Result, Ok, Err, if◌then◌else◌, codes}
 use Rattle.std.specs.List.{list_all}
 use Rattle.std.specs.Str.{bytes_eq}
 use Rattle.kms_model.specs.declared.objects.PlaneInfo.{PlaneInfo}
@@ -31,7 +32,17 @@ pub record Draft : Type 0 where
 
 -- what no line spells
 abbrev pub blank_draft : Draft
-blank_draft = record { head = 0; crtcs = 0; planes = []; conns = []; names = unmade 1 []; clients = []; has_client = false; commands = []; size = 0 }
+blank_draft = record {
+  head = 0;
+  crtcs = 0;
+  planes = [];
+  conns = [];
+  names = unmade 1 [];
+  clients = [];
+  has_client = false;
+  commands = [];
+  size = 0;
+}
 
 abbrev pub is_nil : {A : Type 0} → List A → Bool
 is_nil [] = true
@@ -48,7 +59,8 @@ crtcs_at bytes = do
 
 -- the value of the property `type` that a word stands for
 abbrev pub plane_type : List ℕ → Option ℕ
-plane_type word = if bytes_eq word (codes "overlay") then Some 0 else (if bytes_eq word (codes "primary") then Some 1 else (if bytes_eq word (codes "cursor") then Some 2 else None))
+plane_type word = if bytes_eq word (codes "overlay") then Some 0
+    else (if bytes_eq word (codes "primary") then Some 1 else (if bytes_eq word (codes "cursor") then Some 2 else None))
 
 -- `TYPE LIST FMTS`
 unfoldable pub plane_fields : ℕ → List ℕ → Option PlaneInfo
@@ -186,13 +198,15 @@ drafted (Err fault) = Err fault
 
 -- the script that the bytes spell, or their first fault; a fault at line 0 is of the input's size
 unfoldable pub input : List ℕ → Result Script Fault
-input bytes = if nat_lt input_limit (length bytes) then Err (record { line = 0; why = Limit }) else drafted (lines_after blank_draft 1 (rows_of bytes))
+input bytes = if nat_lt input_limit (length bytes) then Err (record { line = 0; why = Limit })
+    else drafted (lines_after blank_draft 1 (rows_of bytes))
 
 -- Devices alone
 
 -- a well-formed line of a connector, of a device with a number of CRTCs
 abbrev pub is_conn_of : ℕ → Row → Bool
-is_conn_of crtcs row = row.is_ended && (list_all is_printable row.text && (bytes_eq (until 32 row.text) (codes "conn") && is_some (conn_at crtcs (from 32 row.text))))
+is_conn_of crtcs row = row.is_ended && (list_all is_printable row.text
+    && (bytes_eq (until 32 row.text) (codes "conn") && is_some (conn_at crtcs (from 32 row.text))))
 
 -- the device is whole before a line
 abbrev pub is_done : Draft → Row → Bool
@@ -202,7 +216,8 @@ is_done d row = not (is_nil d.conns) && not (is_conn_of d.crtcs row)
 -- have so many bytes.
 unfoldable pub device_after : Draft → ℕ → List Row → Result (Topology × ℕ) Fault
 device_after d line [] = if is_nil d.conns then Err (missing_line line) else Ok (topology_in d, d.size)
-device_after d line (row ∷ rows) = if is_done d row then Ok (topology_in d, d.size) else or_fault line (line_after d row) (λ next. device_after next (line + 1) rows)
+device_after d line (row ∷ rows) = if is_done d row then Ok (topology_in d, d.size)
+    else or_fault line (line_after d row) (λ next. device_after next (line + 1) rows)
 
 -- the device at the front of an input, and the place behind it, or the first fault
 abbrev pub device_of : List ℕ → Result (Topology × ℕ) Fault

@@ -1,5 +1,6 @@
 -- The words of a line: numbers, labels and names.
-use Rattle.std.specs.Prelude.{ℕ, ◌+◌, ◌-◌, ◌*◌, Bool, false, ◌&&◌, ◌||◌, ◌==◌, nat_lt, nat_le, List, [], ◌∷◌, ◌++◌, length, replicate, Option, Some, None, if◌then◌else◌, option_and_then}
+use Rattle.std.specs.Prelude.{ℕ, ◌+◌, ◌-◌, ◌*◌, Bool, false, ◌&&◌, ◌||◌, ◌==◌, nat_lt, nat_le, List, [], ◌∷◌, ◌++◌, length, replicate}
+use Rattle.std.specs.Prelude.{Option, Some, None, if◌then◌else◌, option_and_then}
 use Rattle.std.specs.List.{list_all}
 
 -- the first value, where there is one, handed on
@@ -101,7 +102,8 @@ label_at bytes = do
 unfoldable pub name_at : List ℕ → Option (List ℕ × List ℕ)
 name_at bytes = do
   f ← field_at bytes
-  if nat_lt 0 (length f.0) && (nat_lt (length f.0) 32 && list_all is_name_byte f.0) then Some (f.0 ++ replicate (32 - length f.0) 0, f.1) else None
+  if nat_lt 0 (length f.0) && (nat_lt (length f.0) 32 && list_all is_name_byte f.0) then Some (f.0 ++ replicate (32 - length f.0) 0, f.1)
+      else None
 
 -- the end of the line
 abbrev pub end_at : List ℕ → Option (Unit {0})

@@ -1,5 +1,6 @@
 use Rattle.std.proofs.Common.{List, [], ap, arith, get_or, length, subst, sym, ◌∙◌}
-use Rattle.kms_audit.proofs.Eventful.{event-left, event-read, event-rest, events-first, events-none, left-first, no-event-here, no-line-here}
+use Rattle.kms_audit.proofs.Eventful.{event-left, event-read, event-rest, events-first, events-none, left-first, no-event-here}
+use Rattle.kms_audit.proofs.Eventful.{no-line-here}
 use Rattle.kms_audit.proofs.Firsts.{at-0}
 use Rattle.kms_audit.specs.Eventing.{EventFields, IsTaken, ReplyFields, next_reader}
 use Rattle.kms_model.specs.Report.Right.{event_is_right}

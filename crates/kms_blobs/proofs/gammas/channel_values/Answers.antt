@@ -14,7 +14,8 @@ loop-value-preserved c =
     record {
       size = length-set c.loop-value.values i c.upper.result ∙ c.loop-value.invariant.size;
       done = take_more_set c.loop-value.values i c.upper.result (omega (arith, c.loop-value.invariant.size, c.loop-value-test.true))
-          ∙ (ap₂ (λ (xs : List ℕ) (x : ℕ). xs ++ x ∷ []) c.loop-value.invariant.done one ∙ sym (map-range_with_len_more upper_at 0 i i (omega arith)));
+          ∙ (ap₂ (λ (xs : List ℕ) (x : ℕ). xs ++ x ∷ []) c.loop-value.invariant.done one ∙ sym
+          (map-range_with_len_more upper_at 0 i i (omega arith)));
     }
 
 pub returns : goal.returns

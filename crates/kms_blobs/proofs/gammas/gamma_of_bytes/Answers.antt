@@ -6,4 +6,5 @@ use Rattle.kms_blobs.proofs.gammas.gamma_of_bytes.Goals as goal
 pub returns : goal.returns
 returns c =
     ap Some c.gamma_held.ensures
-    ∙ sym (cond-true (length c.args.bytes.now == 2048) (Some (gamma_held c.args.bytes.now)) None (eq-eqb (length c.args.bytes.now) 2048 c.if-bytes-ne-GAMMA_BYTES.false))
+    ∙ sym (cond-true (length c.args.bytes.now == 2048) (Some (gamma_held c.args.bytes.now)) None
+    (eq-eqb (length c.args.bytes.now) 2048 c.if-bytes-ne-GAMMA_BYTES.false))

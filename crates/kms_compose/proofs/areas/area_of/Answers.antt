@@ -10,7 +10,8 @@ use Rattle.kms_compose.proofs.areas.area_of.Goals as goal
 
 of_numbers : (m : Mode) (l : Layer) (v : Rect) (a : Area) → FitsMode m l → l.visible ≡ Some v →
     a ≡ record { left = natural v.x; top = natural v.y; width = natural v.w; height = natural v.h } → IsArea m v a
-of_numbers m l v a placed seen is = area_is m l v a placed seen (ap (λ (a : Area). a.left) is) (ap (λ (a : Area). a.width) is) (ap (λ (a : Area). a.top) is) (ap (λ (a : Area). a.height) is)
+of_numbers m l v a placed seen is = area_is m l v a placed seen (ap (λ (a : Area). a.left) is) (ap (λ (a : Area). a.width) is)
+    (ap (λ (a : Area). a.top) is) (ap (λ (a : Area). a.height) is)
 
 pub area_in-requires : goal.area_in-requires
 area_in-requires c = is_natural c.requires.0 c.args.layer.now c.in_ok-visible.visible c.requires.1 (search rules)

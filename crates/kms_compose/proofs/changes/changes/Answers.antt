@@ -12,7 +12,8 @@ loop-left-preserved-then-is_same_layer c = record {
 
 pub loop-left-preserved-then-is_one_of : goal.loop-left-preserved-then-is_one_of
 loop-left-preserved-then-is_one_of c = record {
-  apart = came_more c.args.old.now c.args.new.now c.loop-left.changed.items c.loop-left.left c.loop-left.came c.loop-left.invariant.apart c.list.new.listed.items _
+  apart = came_more c.args.old.now c.args.new.now c.loop-left.changed.items c.loop-left.left c.loop-left.came c.loop-left.invariant.apart
+      c.list.new.listed.items _
       (omega (arith, c.if-came-new.true)) c.in_ok-list.ensures;
   left_in = c.loop-left.invariant.left_in;
   came_in = omega (arith, c.if-came-new.true);
@@ -20,12 +21,14 @@ loop-left-preserved-then-is_one_of c = record {
 
 pub loop-left-preserved : goal.loop-left-preserved
 loop-left-preserved c = record {
-  apart = left_more c.args.old.now c.args.new.now c.loop-left.changed.items c.loop-left.left c.loop-left.came c.loop-left.invariant.apart c.list-else-is_one_of.new.listed.items _
+  apart = left_more c.args.old.now c.args.new.now c.loop-left.changed.items c.loop-left.left c.loop-left.came c.loop-left.invariant.apart
+      c.list-else-is_one_of.new.listed.items _
       (omega (arith, c.loop-left-test.true)) c.in_ok-list-2.ensures;
   left_in = omega (arith, c.loop-left-test.true);
   came_in = c.loop-left.invariant.came_in;
 }
 
 pub returns : goal.returns
-returns c = rests_listed c.args.old.now c.args.new.now c.loop-left.changed.items c.loop-left.left c.loop-left.came c.loop-left.invariant.apart c.list_all.new.listed.items c.list_all-2.new.listed.items
+returns c = rests_listed c.args.old.now c.args.new.now c.loop-left.changed.items c.loop-left.left c.loop-left.came
+    c.loop-left.invariant.apart c.list_all.new.listed.items c.list_all-2.new.listed.items
     (search rules) (search rules)

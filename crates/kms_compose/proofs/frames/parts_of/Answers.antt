@@ -1,4 +1,5 @@
-use Rattle.std.proofs.Common.{◌≡◌, ◌<◌, ℕ, ◌+◌, List, [], ◌∷◌, ◌++◌, drop, Option, Some, None, slice_index_or, refl, subst, ap, sym, ◌∙◌, arith, rules, length}
+use Rattle.std.proofs.Common.{◌≡◌, ◌<◌, ℕ, ◌+◌, List, [], ◌∷◌, ◌++◌, drop, Option, Some, None, slice_index_or, refl, subst, ap, sym, ◌∙◌}
+use Rattle.std.proofs.Common.{arith, rules, length}
 use Rattle.std.specs.Prelude.{All, IfSome}
 use Rattle.std.proofs.lemmas.List.{append-nil, at_drop_more}
 use Rattle.std.proofs.lemmas.List.Elements.{All-push}
@@ -16,7 +17,8 @@ all_listed parts None all one = rw (append-nil parts) all
 all_listed parts (Some p) all one = All-push IsPart parts p all one
 
 -- a part over the others, where there is one
-parts_over-push : (x y : ℕ) (under : Colour) (parts : List VisiblePart) (p : VisiblePart) → parts_over x y under (parts ++ p ∷ []) ≡ mixed p.layer (parts_over x y under parts) (part_colour p x y)
+parts_over-push : (x y : ℕ) (under : Colour) (parts : List VisiblePart) (p : VisiblePart) → parts_over x y under (parts ++ p ∷ [])
+    ≡ mixed p.layer (parts_over x y under parts) (part_colour p x y)
 parts_over-push x y under [] p = refl
 parts_over-push x y under (q ∷ parts) p = parts_over-push x y (mixed q.layer under (part_colour q x y)) parts p
 
@@ -31,7 +33,8 @@ part_added words x y under parts layer (Some p) e own =
     ∙ ap (mixed layer (parts_over x y under parts)) (sym e)
 
 -- one layer more
-layer_added : (words : ℕ → ℕ → ℕ → Option ℕ) (x y : ℕ) (parts new : List VisiblePart) (layers : List Layer) (i : ℕ) (d : Layer) (p : Option VisiblePart) (whole : Colour) →
+layer_added : (words : ℕ → ℕ → ℕ → Option ℕ) (x y : ℕ) (parts new : List VisiblePart) (layers : List Layer) (i : ℕ) (d : Layer)
+    (p : Option VisiblePart) (whole : Colour) →
     i < length layers → new ≡ parts ++ listed p →
     layer_colour words x y (slice_index_or layers i d) ≡ seen_colour p x y → IfSome p (λ q. q.layer ≡ slice_index_or layers i d) →
     composed words x y (parts_over x y black parts) (drop i layers) ≡ whole →
@@ -48,13 +51,15 @@ loop-layer-preserved c =
     let below : c.loop-layer.layer-index < length c.as_slice-layer-items.result.now = omega arith in
     let now : c.push_part.new.parts.items ≡ c.loop-layer.parts.items ++ listed c.in_ok-part_of.field-0 = search rules in record {
       parts = rw now (all_listed _ _ c.loop-layer.invariant.parts c.in_ok-part_of.ensures.part);
-      colours = λ x y. layer_added (word_under c.args.images.now) x y _ _ _ _ _ _ _ below now (c.in_ok-part_of.ensures.colours x y) c.in_ok-part_of.ensures.layer (c.loop-layer.invariant.colours x y);
+      colours = λ x y. layer_added (word_under c.args.images.now) x y _ _ _ _ _ _ _ below now (c.in_ok-part_of.ensures.colours x y)
+          c.in_ok-part_of.ensures.layer (c.loop-layer.invariant.colours x y);
     }
 
 pub part_of-requires : goal.part_of-requires
 part_of-requires c =
     let below : c.loop-layer.layer-index < length c.as_slice-layer-items.result.now = omega arith in
-    let showable = subst (λ (layers : List Layer). All (IsShowable c.args.shown.now.mode c.args.images.now) layers) (sym c.as_slice-layer-items.ensures) c.requires.layers in
+    let showable = subst (λ (layers : List Layer). All (IsShowable c.args.shown.now.mode c.args.images.now) layers)
+    (sym c.as_slice-layer-items.ensures) c.requires.layers in
     record {
       mode = c.args.shown.now.mode;
       narrow = c.requires.narrow;

@@ -9,5 +9,6 @@ use Rattle.kms_compose.proofs.frames.parts_of.Given as goal
 abbrev pub invariant-loop-layer : goal.invariant-loop-layer
 invariant-loop-layer l = record {
   parts : All IsPart l.parts.items;
-  colours : (x y : ℕ) → composed (word_under l.images) x y (parts_over x y black l.parts.items) (drop l.layer-index l.layer-items) ≡ composed (word_under l.images) x y black l.shown.layers;
+  colours : (x y : ℕ) → composed (word_under l.images) x y (parts_over x y black l.parts.items) (drop l.layer-index l.layer-items)
+      ≡ composed (word_under l.images) x y black l.shown.layers;
 }

@@ -7,11 +7,14 @@ use Rattle.kms_compose.specs.Parts.{IsVisible}
 use Rattle.kms_compose.proofs.Visible.{cut_colour, cut_part, is_visible}
 use Rattle.kms_compose.proofs.parts.part_of.Goals as goal
 
-seen : (images : List FbImage) (l : Layer) (v : Rect) → IsShown images l → Fits w32 l.fb.width → Fits w32 l.fb.height → l.visible ≡ Some v → IsVisible l v
-seen images l v is width height shown = is_visible is.mode l v is.narrow is.low (omega (arith, width)) (omega (arith, height)) is.showable.placed shown
+seen : (images : List FbImage) (l : Layer) (v : Rect) → IsShown images l → Fits w32 l.fb.width → Fits w32 l.fb.height → l.visible ≡ Some v
+    → IsVisible l v
+seen images l v is width height shown = is_visible is.mode l v is.narrow is.low (omega (arith, width)) (omega (arith, height))
+    is.showable.placed shown
 
 pub cut-requires-clause-visible : goal.cut-requires-clause-visible
-cut-requires-clause-visible c = seen c.args.images.now c.args.layer.now c.in-Some.visible c.requires (search rules) (search rules) (search rules)
+cut-requires-clause-visible c = seen c.args.images.now c.args.layer.now c.in-Some.visible c.requires (search rules) (search rules)
+    (search rules)
 
 pub returns-clause-colours : goal.returns-clause-colours
 returns-clause-colours c = λ x y.

@@ -10,9 +10,12 @@ loop-layer-preserved c = record {
   within = omega (arith, c.least_row-first.ensures.within, c.loop-layer.invariant.within);
   above = λ x y high.
       ap (λ (ls : List Layer). covered_by ls x y) (take_more c.args.layers.now c.loop-layer.layer-index _ (omega arith))
-      ∙ covered_none (take c.loop-layer.layer-index c.args.layers.now) _ x y (c.loop-layer.invariant.above x y (omega (arith, high, c.least_row-first.ensures.within))) (c.least_row-first.ensures.above x y high);
+      ∙ covered_none (take c.loop-layer.layer-index c.args.layers.now) _ x y
+      (c.loop-layer.invariant.above x y (omega (arith, high, c.least_row-first.ensures.within)))
+      (c.least_row-first.ensures.above x y high);
 }
 
 pub returns-clause-above : goal.returns-clause-above
 returns-clause-above c = λ x y high.
-    ap (λ (ls : List Layer). covered_by ls x y) (sym (take_all c.loop-layer.layer-index c.args.layers.now (omega arith))) ∙ c.loop-layer.invariant.above x y high
+    ap (λ (ls : List Layer). covered_by ls x y) (sym (take_all c.loop-layer.layer-index c.args.layers.now (omega arith))) ∙
+    c.loop-layer.invariant.above x y high

@@ -12,7 +12,8 @@ take-three : (p : List ℕ) (i r g b n : ℕ) → i + 3 ≤ length p → n ≡ i
 take-three p i r g b n room e =
     let one = take-set_at p i (i + 1) r (omega arith) (omega arith) in
     let two = take-set_at (slice_set p i r) (i + 1) (i + 2) g (omega arith) (omega (arith, length-set p i r)) in
-    let three = take-set_at (slice_set (slice_set p i r) (i + 1) g) (i + 2) n b (omega arith) (omega (arith, length-set (slice_set p i r) (i + 1) g, length-set p i r)) in
+    let three = take-set_at (slice_set (slice_set p i r) (i + 1) g) (i + 2) n b (omega arith)
+    (omega (arith, length-set (slice_set p i r) (i + 1) g, length-set p i r)) in
     rw (three, two, one) (simp append_assoc)
 
 pub loop-x-preserved : goal.loop-x-preserved

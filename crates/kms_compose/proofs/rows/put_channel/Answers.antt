@@ -15,10 +15,12 @@ small_inside old run left n k v long fits below f e =
 pub returns-then-is_opaque : goal.returns-then-is_opaque
 returns-then-is_opaque g c = λ x h.
     let opaque : is_opaque c.args.layer.now ≡ true = search rules in
-    run_over c.args.layer.now g.C.Channel.channel c.args.words.now c.args.lower.now c.unpack.new.out c.args.left _ (omega arith) (omega arith) c.requires.within
+    run_over c.args.layer.now g.C.Channel.channel c.args.words.now c.args.lower.now c.unpack.new.out c.args.left _ (omega arith)
+    (omega arith) c.requires.within
     (λ k below.
     let e = c.unpack.ensures k (omega arith) in
-    let small = small_inside c.args.lower.now c.unpack.new.out c.args.left (c.args.left + length c.args.words.now - c.args.left) k _ (omega arith) (omega (arith, c.requires.within)) (omega arith) (c.type_inv.lower (c.args.left + k)) e in
+    let small = small_inside c.args.lower.now c.unpack.new.out c.args.left (c.args.left + length c.args.words.now - c.args.left) k _
+    (omega arith) (omega (arith, c.requires.within)) (omega arith) (c.type_inv.lower (c.args.left + k)) e in
     e ∙ sym (opaque_over c.args.layer.now g.C.Channel.channel _ _ opaque small))
     x
 
@@ -26,7 +28,8 @@ pub returns-else-is_opaque : goal.returns-else-is_opaque
 returns-else-is_opaque g c = λ x h.
     let shown_through : is_opaque c.args.layer.now ≡ false = search rules in
     let size : length c.unpack-else-is_opaque.new.out ≡ length c.args.words.now = search rules in
-    run_over c.args.layer.now g.C.Channel.channel c.args.words.now c.args.lower.now c.blend_row.new.b c.args.left _ (omega arith) (omega arith)
+    run_over c.args.layer.now g.C.Channel.channel c.args.words.now c.args.lower.now c.blend_row.new.b c.args.left _ (omega arith)
+    (omega arith)
     c.requires.within
     (λ k below.
     c.blend_row.ensures.places k (omega arith)

@@ -16,10 +16,13 @@ middle_of-requires-clause-wide c =
     omega (arith, wide, most)
 
 pub middle_of-requires-clause-pixel : goal.middle_of-requires-clause-pixel
-middle_of-requires-clause-pixel c = few_pixels c.args.reach.now c.args.at c.natural-src.result c.natural-long.result c.natural-wide.result c.pixel_of-pixel.result (search rules) (search rules) (search rules) c.pixel_of-pixel.ensures c.requires
+middle_of-requires-clause-pixel c = few_pixels c.args.reach.now c.args.at c.natural-src.result c.natural-long.result c.natural-wide.result
+    c.pixel_of-pixel.result (search rules) (search rules) (search rules) c.pixel_of-pixel.ensures c.requires
 
 pub middle_of-requires-clause-room : goal.middle_of-requires-clause-room
-middle_of-requires-clause-room c = room c.args.reach.now c.args.at c.natural-src.result c.natural-long.result c.natural-wide.result c.pixel_of-pixel.result (search rules) (search rules) (search rules) c.pixel_of-pixel.ensures c.requires
+middle_of-requires-clause-room c = room c.args.reach.now c.args.at c.natural-src.result c.natural-long.result c.natural-wide.result
+    c.pixel_of-pixel.result (search rules) (search rules) (search rules) c.pixel_of-pixel.ensures c.requires
 
 pub returns : goal.returns
-returns c = place_is c.args.reach.now c.args.at c.natural-src.result c.natural-long.result c.natural-wide.result c.pixel_of-pixel.result (search rules) (search rules) (search rules) c.pixel_of-pixel.ensures c.middle_of.result c.middle_of.ensures
+returns c = place_is c.args.reach.now c.args.at c.natural-src.result c.natural-long.result c.natural-wide.result c.pixel_of-pixel.result
+    (search rules) (search rules) (search rules) c.pixel_of-pixel.ensures c.middle_of.result c.middle_of.ensures

@@ -11,5 +11,6 @@ invariant-loop-made g l = record {
   top : l.first.me.0.top ≡ l.made;
   parts : l.first.me.0.parts + l.made ≡ l.seats + 1;
   fresh : pass_state l.first ≡ new_pass (lock_name l.words.table_id (g.T.Kept.fixed l.words.key.1.value)) 1;
-  passes : new_pass (lock_name l.words.table_id (g.T.Kept.fixed l.words.key.1.value)) 1 ∷ l.passes.items ≡ new_passes (lock_name l.words.table_id (g.T.Kept.fixed l.words.key.1.value)) l.made;
+  passes : new_pass (lock_name l.words.table_id (g.T.Kept.fixed l.words.key.1.value)) 1 ∷ l.passes.items
+      ≡ new_passes (lock_name l.words.table_id (g.T.Kept.fixed l.words.key.1.value)) l.made;
 }

@@ -1,4 +1,5 @@
-use Rattle.std.proofs.Common.{◌≡◌, ◌+◌, ◌-◌, ◌<◌, ◌≤◌, ℕ, List, ◌∷◌, Option, Some, None, drop, length, set, take, refl, sym, ap, ◌∙◌, add-one, arith}
+use Rattle.std.proofs.Common.{◌≡◌, ◌+◌, ◌-◌, ◌<◌, ◌≤◌, ℕ, List, ◌∷◌, Option, Some, None, drop, length, set, take, refl, sym, ap, ◌∙◌}
+use Rattle.std.proofs.Common.{add-one, arith}
 use Rattle.std.specs.List.{cons_option}
 use Rattle.std.proofs.lemmas.List.{drop-set, length-drop, length-set, take_all}
 use Rattle.kms_model.specs.declared.objects.Topology.{Topology}

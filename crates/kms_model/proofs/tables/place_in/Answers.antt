@@ -11,5 +11,6 @@ loop-low-preserved-then-found-id-2 g c =
 pub loop-low-preserved : goal.loop-low-preserved
 loop-low-preserved g c =
     let middle : ℕ = c.loop-low.low + (c.loop-low.high - c.loop-low.low) / 2 in
-    narrowed_below c.args.slots.now c.args.id c.loop-low.low c.loop-low.high middle c.requires c.loop-low.invariant (omega arith) (omega arith)
+    narrowed_below c.args.slots.now c.args.id c.loop-low.low c.loop-low.high middle c.requires c.loop-low.invariant (omega arith)
+    (omega arith)
     (id_at c.args.slots.now middle c.index-slots-middle.result (omega arith) (λ n. c.args.id < n) (omega arith))

@@ -9,18 +9,21 @@ rounds-init c = finishing_first c.args.core.now
 
 pub rounds-preserved : goal.rounds-preserved
 rounds-preserved c =
-    finishing_next c.args.core.now c.is_a_history.ensures.formed c.is_a_history.ensures.history c.rounds_end.ensures c.rounds.core c.round.new.core c.rounds.invariant (not-true _ (sym c.in_ok-round.ensures.moved ∙ c.if-branch.true))
+    finishing_next c.args.core.now c.is_a_history.ensures.formed c.is_a_history.ensures.history c.rounds_end.ensures c.rounds.core
+    c.round.new.core c.rounds.invariant (not-true _ (sym c.in_ok-round.ensures.moved ∙ c.if-branch.true))
     c.in_ok-round.ensures.on c.in_ok-round.ensures.round
 
 pub returns-clause-finished : goal.returns-clause-finished
 returns-clause-finished c =
     let still = not-false _ (sym c.in_ok-round.ensures.moved ∙ c.if-branch.false) in
     on_ok_weaker c.end.result
-    (λ end. finished_at c.args.core.now c.is_a_history.ensures.formed c.is_a_history.ensures.history c.rounds_end.ensures c.rounds.core c.round.new.core c.end.new.core c.rounds.invariant still (c.in_ok-round.ensures.stays c.if-branch.false) end)
+    (λ end. finished_at c.args.core.now c.is_a_history.ensures.formed c.is_a_history.ensures.history c.rounds_end.ensures c.rounds.core
+    c.round.new.core c.end.new.core c.rounds.invariant still (c.in_ok-round.ensures.stays c.if-branch.false) end)
     c.end.ensures.ended
 
 pub returns-clause-over : goal.returns-clause-over
 returns-clause-over c =
     on_ok_weaker c.end.result
-    (λ finished. c.finished_histories_are_over.ensures c.args.core.now.script c.args.core.now.steps c.is_a_history.ensures.formed c.is_a_history.ensures.history c.end.new.core.steps finished)
+    (λ finished. c.finished_histories_are_over.ensures c.args.core.now.script c.args.core.now.steps c.is_a_history.ensures.formed
+    c.is_a_history.ensures.history c.end.new.core.steps finished)
     (returns-clause-finished c)

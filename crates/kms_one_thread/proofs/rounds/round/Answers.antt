@@ -8,12 +8,14 @@ pub loop-client-preserved : goal.loop-client-preserved
 loop-client-preserved c =
     let more = c.loop-client-test.true in
     let count = c.len-client-end.result in
-    turning_next c.args.core.now c.loop-client.core c.turn.new.core c.loop-client.client (count - c.loop-client.client) (count - (c.loop-client.client + 1)) (omega (arith, more)) c.loop-client.invariant c.in_ok-turn.ensures.on c.in_ok-turn.ensures.turn
+    turning_next c.args.core.now c.loop-client.core c.turn.new.core c.loop-client.client (count - c.loop-client.client)
+    (count - (c.loop-client.client + 1)) (omega (arith, more)) c.loop-client.invariant c.in_ok-turn.ensures.on c.in_ok-turn.ensures.turn
 
 pub returns-clause-round : goal.returns-clause-round
 returns-clause-round c =
     let over = c.loop-client-test.false in
-    turning_last c.args.core.now c.loop-client.core c.settle.new.core c.loop-client.client (c.len-client-end.result - c.loop-client.client) (omega (arith, over)) c.loop-client.invariant c.settle.ensures.settled
+    turning_last c.args.core.now c.loop-client.core c.settle.new.core c.loop-client.client (c.len-client-end.result - c.loop-client.client)
+    (omega (arith, over)) c.loop-client.invariant c.settle.ensures.settled
 
 pub returns-clause-moved : goal.returns-clause-moved
 returns-clause-moved c =
@@ -23,9 +25,11 @@ returns-clause-moved c =
 pub returns-clause-less : goal.returns-clause-less
 returns-clause-less c = λ moved.
     let now = sym (returns-clause-moved c) ∙ moved in
-    round_less c.args.core.now c.settle.new.core c.is_a_history.ensures.formed c.is_a_history.ensures.history (c.settle.ensures.on.script ∙ c.loop-client.invariant.on.script) (returns-clause-round c) (not-true _ now)
+    round_less c.args.core.now c.settle.new.core c.is_a_history.ensures.formed c.is_a_history.ensures.history
+    (c.settle.ensures.on.script ∙ c.loop-client.invariant.on.script) (returns-clause-round c) (not-true _ now)
 
 pub returns-clause-stays : goal.returns-clause-stays
 returns-clause-stays c = λ moved.
     let now = sym (returns-clause-moved c) ∙ moved in
-    round_still c.args.core.now c.settle.new.core c.is_a_history.ensures.formed c.is_a_history.ensures.history (c.settle.ensures.on.script ∙ c.loop-client.invariant.on.script) (returns-clause-round c) (not-false _ now)
+    round_still c.args.core.now c.settle.new.core c.is_a_history.ensures.formed c.is_a_history.ensures.history
+    (c.settle.ensures.on.script ∙ c.loop-client.invariant.on.script) (returns-clause-round c) (not-false _ now)

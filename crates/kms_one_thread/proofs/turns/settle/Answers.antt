@@ -11,11 +11,13 @@ pub apply-requires : goal.apply-requires
 apply-requires c = next_legal c.settling.core c.in-Some.step c.is_a_history.ensures.formed c.is_a_history.ensures.history c.in-Some.ensures
 
 pub settling-smaller : goal.settling-smaller
-settling-smaller c = next_less c.settling.core c.in-Some.step c.is_a_history.ensures.formed c.is_a_history.ensures.history c.in-Some.ensures c.apply.new.self c.in-Ok.ensures.history
+settling-smaller c = next_less c.settling.core c.in-Some.step c.is_a_history.ensures.formed c.is_a_history.ensures.history c.in-Some.ensures
+    c.apply.new.self c.in-Ok.ensures.history
 
 pub settling-preserved : goal.settling-preserved
 settling-preserved c =
-    settling_some c.args.core.now c.settling.core c.apply.new.self c.in-Some.step c.settling.invariant c.is_a_history.ensures.formed c.is_a_history.ensures.history c.in-Some.ensures c.in-Ok.ensures.history
+    settling_some c.args.core.now c.settling.core c.apply.new.self c.in-Some.step c.settling.invariant c.is_a_history.ensures.formed
+    c.is_a_history.ensures.history c.in-Some.ensures c.in-Ok.ensures.history
 
 -- a step of a tail finds memory
 pub unreachable-requires : goal.unreachable-requires

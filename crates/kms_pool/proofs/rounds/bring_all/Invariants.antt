@@ -9,6 +9,7 @@ invariant-loop-participant g l = record {
   same : IsSamePass l.fn.pass l.pass;
   parts : (view l.pass).parts ≡ 32;
   empty : (view l.pass).held ≡ [];
-  brought : IsPermutation (map (λ x. g.P.Player.name x.player.value) l.fn.participants.items) ((view l.pass).brought ++ map (λ x. g.P.Player.name x.player.value) (into_iter_items l.participant-iterator));
+  brought : IsPermutation (map (λ x. g.P.Player.name x.player.value) l.fn.participants.items)
+      ((view l.pass).brought ++ map (λ x. g.P.Player.name x.player.value) (into_iter_items l.participant-iterator));
   rest : into_iter_len l.participant-iterator ≡ length (into_iter_items l.participant-iterator);
 }

@@ -8,8 +8,10 @@ use Rattle.kms_pool.proofs.rounds.dismiss.Goals as goal
 pub absorb-requires-clause-rule : goal.absorb-requires-clause-rule
 absorb-requires-clause-rule g c =
     let ready = All-head (λ w. IsPassOf c.args.queue.now w.pass × (view w.pass ≡ hand 1 [] [])) c.in-Some.worker _
-    (All-same (λ w. IsPassOf c.args.queue.now w.pass × (view w.pass ≡ hand 1 [] [])) _ _ (sym c.in-Some.ensures.steps.0) c.loop-worker.invariant.ready) in
-    merges (λ x. g.P.Player.name x.player.value) _ _ _ _ c.loop-worker.invariant.some (ap (λ v. v.brought) ready.1) (ap (λ v. v.held) ready.1)
+    (All-same (λ w. IsPassOf c.args.queue.now w.pass × (view w.pass ≡ hand 1 [] [])) _ _ (sym c.in-Some.ensures.steps.0)
+    c.loop-worker.invariant.ready) in
+    merges (λ x. g.P.Player.name x.player.value) _ _ _ _ c.loop-worker.invariant.some (ap (λ v. v.brought) ready.1)
+    (ap (λ v. v.held) ready.1)
 
 pub loop-worker-preserved : goal.loop-worker-preserved
 loop-worker-preserved g c =

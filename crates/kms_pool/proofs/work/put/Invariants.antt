@@ -3,4 +3,5 @@ use Rattle.crossbeam_queue.specs.Passes.{view, IsPassOf, IsSamePass}
 use Rattle.kms_pool.proofs.work.put.Given as goal
 
 abbrev pub invariant-loop : goal.invariant-loop
-invariant-loop g l = IsPassOf l.queue l.pass × IsSamePass l.fn.pass l.pass × (view l.pass ≡ view l.fn.pass) × (l.participant ≡ l.fn.participant)
+invariant-loop g l = IsPassOf l.queue l.pass × IsSamePass l.fn.pass l.pass × (view l.pass ≡ view l.fn.pass)
+    × (l.participant ≡ l.fn.participant)

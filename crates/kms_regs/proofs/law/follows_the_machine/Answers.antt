@@ -1,4 +1,5 @@
-use Rattle.kms_regs.proofs.MachineEffects.{flush_follows, flush_recorded, old_crtc_held, old_plane_held, on_in_words, others_follow, vblank_follows, vblank_recorded, write_crtc_follows, write_plane_follows}
+use Rattle.kms_regs.proofs.MachineEffects.{flush_follows, flush_recorded, old_crtc_held, old_plane_held, on_in_words, others_follow}
+use Rattle.kms_regs.proofs.MachineEffects.{vblank_follows, vblank_recorded, write_crtc_follows, write_plane_follows}
 use Rattle.kms_regs.proofs.law.follows_the_machine.Goals as goal
 
 pub returns : goal.returns

@@ -17,12 +17,14 @@ pub returns-clause-value : goal.returns-clause-value
 returns-clause-value c =
     let few : (bytes_eq (until 32 c.args.line.now) (codes "atomic") && has_many (from 32 c.args.line.now)) ≡ false = search rules in
     let once : c.command_of.new.names.names.is_twice ≡ false = search rules in
-    let read : command_read c.args.names.now.names c.args.line.now ≡ Some (c.in-Some.command, c.command_of.new.names.names) = search rules in
+    let read : command_read c.args.names.now.names c.args.line.now ≡ Some (c.in-Some.command, c.command_of.new.names.names) = search rules
+    in
     line_read_well c.args.names.now.names c.command_of.new.names.names c.args.line.now c.in-Some.command few read once
 
 pub returns-clause-fit : goal.returns-clause-fit
 returns-clause-fit c =
     let few : (bytes_eq (until 32 c.args.line.now) (codes "atomic") && has_many (from 32 c.args.line.now)) ≡ false = search rules in
-    let read : command_read c.args.names.now.names c.args.line.now ≡ Some (c.in-Some.command, c.command_of.new.names.names) = search rules in
+    let read : command_read c.args.names.now.names c.args.line.now ≡ Some (c.in-Some.command, c.command_of.new.names.names) = search rules
+    in
     let filled : HasFilled c.in-Some.command = search rules in
     fit_command c.args.names.now.names c.command_of.new.names.names c.args.line.now c.in-Some.command few read filled

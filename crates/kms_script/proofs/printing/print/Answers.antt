@@ -12,7 +12,8 @@ returns c =
     let s = c.args.script.now in
     let first : c.push_numbered.new.text.items ≡ line (codes "kms" ∷ decimal s.version ∷ []) = search rules in
     let second : c.push_device.new.text.items ≡ c.push_numbered.new.text.items ++ text_of (device_lines s.topology) = search rules in
-    let third : c.push_clients.new.text.items ≡ c.push_device.new.text.items ++ flat_map (λ commands. text_of (client_lines s.names commands)) s.clients = search rules in
+    let third : c.push_clients.new.text.items ≡ c.push_device.new.text.items
+    ++ flat_map (λ commands. text_of (client_lines s.names commands)) s.clients = search rules in
     let whole : c.from_vec.result ≡ c.push_clients.new.text.items = search rules in
     let text : c.from_vec.result ≡ spelling s = whole ∙ script_text s _ _ _ first second third in record {
       text = text;

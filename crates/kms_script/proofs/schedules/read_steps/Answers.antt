@@ -11,7 +11,8 @@ returns-in_err-step c =
     let rows = rows_of c.split_line.result.1.now in
     let e = c.in_err-step.field-0.0 in
     let is : c.from_residual.result ≡ Err e = search rules in
-    rw (is, ← c.lines.invariant.read, c.split_line.ensures.rows) (step_stopped c.lines.steps c.lines.number row rows e c.in_err-step.ensures)
+    rw (is, ← c.lines.invariant.read, c.split_line.ensures.rows)
+    (step_stopped c.lines.steps c.lines.number row rows e c.in_err-step.ensures)
 
 pub lines-preserved : goal.lines-preserved
 lines-preserved c =
@@ -20,7 +21,9 @@ lines-preserved c =
     let step = c.in_ok-step.step in
     let pushed : c.push.new.self ≡ c.lines.steps ++ step ∷ [] = search rules in
     record {
-      read = ap (λ steps. with_steps steps (steps_in (c.lines.number + 1) rows)) pushed ∙ next_step c.lines.steps step c.lines.number row rows c.in_ok-step.ensures ∙ sym (ap (λ rs. with_steps c.lines.steps (steps_in c.lines.number rs)) c.split_line.ensures.rows) ∙ c.lines.invariant.read;
+      read = ap (λ steps. with_steps steps (steps_in (c.lines.number + 1) rows)) pushed ∙ next_step c.lines.steps step c.lines.number row
+          rows c.in_ok-step.ensures ∙ sym (ap (λ rs. with_steps c.lines.steps (steps_in c.lines.number rs)) c.split_line.ensures.rows) ∙
+          c.lines.invariant.read;
       number = omega (arith, c.split_line.ensures.shorter, c.lines.invariant.number);
     }
 

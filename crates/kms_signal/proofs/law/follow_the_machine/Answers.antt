@@ -1,5 +1,7 @@
-use Rattle.kms_signal.proofs.StepLemmas.{fences_follow_others, fences_follow_refused_signal, fences_follow_signal, flush_follows, flush_off_follows}
-use Rattle.kms_signal.proofs.StepLemmas.{queues_follow_others, queues_follow_others_read, queues_follow_others_swap, queues_follow_read, queues_follow_swap, vblank_follows, vblank_with_go_follows}
+use Rattle.kms_signal.proofs.StepLemmas.{fences_follow_others, fences_follow_refused_signal, fences_follow_signal, flush_follows}
+use Rattle.kms_signal.proofs.StepLemmas.{flush_off_follows}
+use Rattle.kms_signal.proofs.StepLemmas.{queues_follow_others, queues_follow_others_read, queues_follow_others_swap, queues_follow_read}
+use Rattle.kms_signal.proofs.StepLemmas.{queues_follow_swap, vblank_follows, vblank_with_go_follows}
 use Rattle.kms_signal.proofs.law.follow_the_machine.Goals as goal
 
 pub returns : goal.returns

@@ -1,5 +1,6 @@
 use Rattle.std.proofs.Common.{◌∷◌}
-use Rattle.kms_signal.proofs.InStepLemmas.{no_fences, fence_made, fence_signalled, no_events, events_reserved, event_delivered, event_read, others_reserved, others_unread}
+use Rattle.kms_signal.proofs.InStepLemmas.{no_fences, fence_made, fence_signalled, no_events, events_reserved, event_delivered, event_read}
+use Rattle.kms_signal.proofs.InStepLemmas.{others_reserved, others_unread}
 use Rattle.kms_signal.proofs.law.stands_for_the_machine.Goals as goal
 
 pub returns : goal.returns
@@ -12,5 +13,6 @@ returns c = record {
   deliver = λ q events client event stand. event_delivered q events client event stand;
   read = λ q events client event rest stand is. event_read q events client event rest is stand;
   others = λ q events client other n unread apart stand.
-      others_unread q (record events { reserved = (client, n) ∷ events.reserved }) client other unread apart (others_reserved q events client other n apart stand);
+      others_unread q (record events { reserved = (client, n) ∷ events.reserved }) client other unread apart
+      (others_reserved q events client other n apart stand);
 }

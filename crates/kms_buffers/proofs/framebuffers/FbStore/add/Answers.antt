@@ -10,8 +10,10 @@ use Rattle.kms_buffers.proofs.framebuffers.FbStore.add.Goals as goal
 
 pub returns-clause-thing : goal.returns-clause-thing
 returns-clause-thing c =
-    let added : c.push.new.self ≡ c.args.self.now ++ slot c.args.id (framebuffer c.args.owner c.args.buffer c.args.info) ∷ [] = search rules in
-    let then : open_fbs c.push.new.self ≡ open_fbs c.args.self.now ++ slot c.args.id (framebuffer c.args.owner c.args.buffer c.args.info) ∷ [] =
+    let added : c.push.new.self ≡ c.args.self.now ++ slot c.args.id (framebuffer c.args.owner c.args.buffer c.args.info) ∷ [] = search rules
+    in
+    let then : open_fbs c.push.new.self ≡ open_fbs c.args.self.now ++ slot c.args.id (framebuffer c.args.owner c.args.buffer c.args.info)
+    ∷ [] =
     ap open_fbs added ∙ added_fb c.args.self.now c.args.id c.args.owner c.args.buffer c.args.info in
     λ w label same next. made_fb w c.args.owner label c.args.buffer c.args.info ∙ rw (same, next) (sym then)
 

@@ -32,17 +32,20 @@ returns-clause-things c =
 pub returns-in_default-clause-refusal : goal.returns-in_default-clause-refusal
 returns-in_default-clause-refusal c =
     let answer : Err NOT_FOUND ≡ close_answer c.args.owner (value_with_id c.args.self.now c.args.id) = search rules in
-    let rising : IsRising c.args.self.now = subst (λ (fbs : List (Slot Framebuffer)). IsRising fbs) c.self.view_is c.self.invariant.rising in
+    let rising : IsRising c.args.self.now = subst (λ (fbs : List (Slot Framebuffer)). IsRising fbs) c.self.view_is c.self.invariant.rising
+    in
     λ things numbered same. ap denial answer ∙ closes_alike c.args.self.now c.args.owner c.args.id things rising numbered same
 
 pub returns-then-not-fb-clause-refusal : goal.returns-then-not-fb-clause-refusal
 returns-then-not-fb-clause-refusal c =
     let answer : Err NOT_FOUND ≡ close_answer c.args.owner (value_with_id c.args.self.now c.args.id) = search rules in
-    let rising : IsRising c.args.self.now = subst (λ (fbs : List (Slot Framebuffer)). IsRising fbs) c.self.view_is c.self.invariant.rising in
+    let rising : IsRising c.args.self.now = subst (λ (fbs : List (Slot Framebuffer)). IsRising fbs) c.self.view_is c.self.invariant.rising
+    in
     λ things numbered same. ap denial answer ∙ closes_alike c.args.self.now c.args.owner c.args.id things rising numbered same
 
 pub returns-clause-refusal : goal.returns-clause-refusal
 returns-clause-refusal c =
     let answer : Ok (c.in-Some.fb.references == 1) ≡ close_answer c.args.owner (value_with_id c.args.self.now c.args.id) = search rules in
-    let rising : IsRising c.args.self.now = subst (λ (fbs : List (Slot Framebuffer)). IsRising fbs) c.self.view_is c.self.invariant.rising in
+    let rising : IsRising c.args.self.now = subst (λ (fbs : List (Slot Framebuffer)). IsRising fbs) c.self.view_is c.self.invariant.rising
+    in
     λ things numbered same. ap denial answer ∙ closes_alike c.args.self.now c.args.owner c.args.id things rising numbered same

@@ -16,6 +16,8 @@ pub returns-clause-things : goal.returns-clause-things
 returns-clause-things c =
     let old : c.self.inside.fbs ≡ c.args.self.now = search rules in
     let at : value_with_id c.self.inside.fbs c.args.id ≡ Some c.in-Some.fb = sym c.found.ensures ∙ c.in-Some.is in
-    let may : MayGive (Some c.in-Some.fb) = subst (λ fb. MayGive fb) at (subst (λ fbs. MayGive (value_with_id fbs c.args.id)) (sym old) c.requires) in
+    let may : MayGive (Some c.in-Some.fb) = subst (λ fb. MayGive fb) at
+    (subst (λ fbs. MayGive (value_with_id fbs c.args.id)) (sym old) c.requires) in
     ap open_fbs c.put_back.ensures
-    ∙ (fewer_same c.self.inside.fbs c.args.id c.in-Some.fb _ c.self.invariant.rising at (record { is_open = refl; owner = refl; buffer = refl; info = refl }) (last_is_closed c.in-Some.fb may) ∙ ap open_fbs old)
+    ∙ (fewer_same c.self.inside.fbs c.args.id c.in-Some.fb _ c.self.invariant.rising at
+    (record { is_open = refl; owner = refl; buffer = refl; info = refl }) (last_is_closed c.in-Some.fb may) ∙ ap open_fbs old)

@@ -9,4 +9,5 @@ pub returns-clause-taken : goal.returns-clause-taken
 returns-clause-taken c =
     let at : request_at c.args.core.now.script (machine c.args.core.now) c.args.client ≡ Some c.in_ok-request.request = search rules in
     let taking : doing_at (machine c.args.core.now) c.args.client ≡ doing.Taking c.in-Taking.ticket = search rules in
-    bare_taken c.args.core.now c.args.client c.in-Taking.ticket c.in_ok-request.request c.empty.result at taking c.empty.ensures.states (record { old = c.empty.ensures.old _ _ _; new = c.empty.ensures.new _ _ _ })
+    bare_taken c.args.core.now c.args.client c.in-Taking.ticket c.in_ok-request.request c.empty.result at taking c.empty.ensures.states
+    (record { old = c.empty.ensures.old _ _ _; new = c.empty.ensures.new _ _ _ })

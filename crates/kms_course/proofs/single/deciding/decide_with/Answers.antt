@@ -17,13 +17,16 @@ next_move-requires-clause-fresh c = fresh c.args.core.now c.args.context.now c.r
 pub refuse-requires : goal.refuse-requires
 refuse-requires c =
     let is : IsHistoryOf c.args.core.now = record { formed = c.is_a_history.ensures.formed; history = c.is_a_history.ensures.history } in
-    let refused : RefusedBy c.args.core.now.script.topology c.args.context.now.request c.args.used.now c.args.context.now.states c.in-Refuse.why = search rules in
-    may_refuse c.args.core.now c.args.context.now c.args.used.now c.in-Refuse.why is c.has_sound_contexts.ensures c.requires.taken c.requires.labels c.requires.going refused
+    let refused : RefusedBy c.args.core.now.script.topology c.args.context.now.request c.args.used.now c.args.context.now.states
+    c.in-Refuse.why = search rules in
+    may_refuse c.args.core.now c.args.context.now c.args.used.now c.in-Refuse.why is c.has_sound_contexts.ensures c.requires.taken
+    c.requires.labels c.requires.going refused
 
 pub returns-in_ok-refuse-in-Refuse-clause-answer : goal.returns-in_ok-refuse-in-Refuse-clause-answer
 returns-in_ok-refuse-in-Refuse-clause-answer c =
     let is : IsHistoryOf c.args.core.now = record { formed = c.is_a_history.ensures.formed; history = c.is_a_history.ensures.history } in
-    let refused : RefusedBy c.args.core.now.script.topology c.args.context.now.request c.args.used.now c.args.context.now.states c.in-Refuse.why = search rules in
+    let refused : RefusedBy c.args.core.now.script.topology c.args.context.now.request c.args.used.now c.args.context.now.states
+    c.in-Refuse.why = search rules in
     record {
       going = c.requires.going;
       labels = c.requires.labels;
@@ -33,7 +36,8 @@ returns-in_ok-refuse-in-Refuse-clause-answer c =
       answered = c.in_ok-refuse-in-Refuse.ensures.answer;
       history =
           steps_own c.args.core.now c.refuse.new.self c.args.context.now (λ client. step.Refuse client) c.in_ok-refuse-in-Refuse.field-0
-          (own_taker c.args.core.now c.args.context.now is c.has_sound_contexts.ensures c.requires.taken) c.in_ok-refuse-in-Refuse.ensures.history;
+          (own_taker c.args.core.now c.args.context.now is c.has_sound_contexts.ensures c.requires.taken)
+          c.in_ok-refuse-in-Refuse.ensures.history;
     }
 
 pub returns-then-not-has_states-clause-answer : goal.returns-then-not-has_states-clause-answer

@@ -14,5 +14,7 @@ loop-plane-preserved c =
 pub returns : goal.returns
 returns c = λ t of_device.
     (let latched : IsLatched c.args.shadow.now c.args.self.now c.loop-plane.self (object_id Crtc c.args.index) c.loop-plane.plane =
-    subst (λ (id : ℕ). IsLatched c.args.shadow.now c.args.self.now c.loop-plane.self id c.loop-plane.plane) c.of-crtc.ensures c.loop-plane.invariant in
-    latched_all t c.args.shadow.now c.args.self.now c.loop-plane.self c.self.inside.planes c.self.inside.crtcs c.loop-plane.plane c.args.index _ latched (omega (arith, of_device)) c.self.view_is (search rules) c.crtc.ensures)
+    subst (λ (id : ℕ). IsLatched c.args.shadow.now c.args.self.now c.loop-plane.self id c.loop-plane.plane) c.of-crtc.ensures
+    c.loop-plane.invariant in
+    latched_all t c.args.shadow.now c.args.self.now c.loop-plane.self c.self.inside.planes c.self.inside.crtcs c.loop-plane.plane
+    c.args.index _ latched (omega (arith, of_device)) c.self.view_is (search rules) c.crtc.ensures)

@@ -5,4 +5,5 @@ use Rattle.kms_regs.proofs.FileLemmas.{started}
 use Rattle.kms_regs.proofs.file.RegFile.new.Goals as goal
 
 pub returns : goal.returns
-returns c = started c.args.topology.now _ c.first.result c.first-2.result first_registers (sym (ap length c.as_slice.ensures.value)) c.first.ensures c.first-2.ensures
+returns c = started c.args.topology.now _ c.first.result c.first-2.result first_registers (sym (ap length c.as_slice.ensures.value))
+    c.first.ensures c.first-2.ensures

@@ -9,10 +9,12 @@ use Rattle.kms_regs.proofs.ShownWords.{elsewhere, shows_none, shows_some}
 use Rattle.kms_regs.proofs.words.PlaneWords.shows.Goals as goal
 
 pub returns-then-self-crtc : goal.returns-then-self-crtc
-returns-then-self-crtc c = elsewhere _ c.args.crtc c.args.fb c.if-self-crtc.true ∙ ap (λ (w : PlaneWords). is_fb c.args.fb (seen_on c.args.crtc (plane_in w))) c.self.view_is
+returns-then-self-crtc c = elsewhere _ c.args.crtc c.args.fb c.if-self-crtc.true ∙ ap
+    (λ (w : PlaneWords). is_fb c.args.fb (seen_on c.args.crtc (plane_in w))) c.self.view_is
 
 pub returns-then-self-ne0 : goal.returns-then-self-ne0
-returns-then-self-ne0 c = shows_some _ c.args.crtc c.args.fb c.if-self-crtc.false c.if-self-ne0.true ∙ ap (λ (w : PlaneWords). is_fb c.args.fb (seen_on c.args.crtc (plane_in w))) c.self.view_is
+returns-then-self-ne0 c = shows_some _ c.args.crtc c.args.fb c.if-self-crtc.false c.if-self-ne0.true ∙ ap
+    (λ (w : PlaneWords). is_fb c.args.fb (seen_on c.args.crtc (plane_in w))) c.self.view_is
 
 pub returns-else-self-ne0 : goal.returns-else-self-ne0
 returns-else-self-ne0 c =

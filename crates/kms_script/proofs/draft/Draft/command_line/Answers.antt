@@ -7,7 +7,8 @@ returns-clause-keeps c =
     let old = c.requires.sound.device in
     record {
       device = record {
-        profile = fit_profile c.args.self.now.names.names c.args.text.now c.in_ok-command.command c.read_line.new.names.names c.in_ok-command.ensures.value old.profile;
+        profile = fit_profile c.args.self.now.names.names c.args.text.now c.in_ok-command.command c.read_line.new.names.names
+            c.in_ok-command.ensures.value old.profile;
         crtcs = old.crtcs;
         no_planes = old.no_planes;
         no_conns = old.no_conns;
@@ -18,10 +19,13 @@ returns-clause-keeps c =
         conns = old.conns;
       };
       clients = record {
-        few = subst (λ n. n ≤ 16) (as_many c.args.self.now.clients c.args.self.now.has_client c.args.self.now.commands c.push.new.self) c.requires.sound.clients.few;
+        few = subst (λ n. n ≤ 16) (as_many c.args.self.now.clients c.args.self.now.has_client c.args.self.now.commands c.push.new.self)
+            c.requires.sound.clients.few;
         clients = c.requires.sound.clients.clients;
-        few_commands = few_more c.args.self.now.commands c.push.new.self c.in_ok-command.command _ c.in_ok-push.ensures.ok (sym c.is_full.ensures ∙ c.if-is_full.false);
-        commands = fit_more c.args.self.now.commands c.push.new.self c.in_ok-command.command c.in_ok-push.ensures.ok c.requires.sound.clients.commands c.in_ok-command.ensures.fit;
+        few_commands = few_more c.args.self.now.commands c.push.new.self c.in_ok-command.command _ c.in_ok-push.ensures.ok
+            (sym c.is_full.ensures ∙ c.if-is_full.false);
+        commands = fit_more c.args.self.now.commands c.push.new.self c.in_ok-command.command c.in_ok-push.ensures.ok
+            c.requires.sound.clients.commands c.in_ok-command.ensures.fit;
       };
       size = refl;
       names = c.in_ok-command.ensures.grows;

@@ -13,4 +13,5 @@ returns-clause-limits c =
     let clients : HasFitClients after = c.in_ok-end_client.ensures.fit in
     let some : 0 < length after.conns = subst (λ (d : Draft). 0 < length d.conns) (sym same) c.requires.whole in
     let few : length after.clients ≤ 16 = subst (λ (d : Draft). length d.clients ≤ 16) (sym same) c.requires.sound.clients.few in
-    keeps_limits after c.profile-profile.result _ c.end_client.new.self.clients c.profile-profile.ensures device some clients.clients few (search rules)
+    keeps_limits after c.profile-profile.result _ c.end_client.new.self.clients c.profile-profile.ensures device some clients.clients few
+    (search rules)
