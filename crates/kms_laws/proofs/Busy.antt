@@ -1,7 +1,7 @@
 -- When a request is answered busy.
-use Rattle.std.proofs.Common.{◌≡◌, ℕ, List, Bool, true, false, not, ◌&&◌, Option, Some, None, refl, ap, ◌∙◌, subst, inl, inr, ⊎_elim}
+use Rattle.std.proofs.Common.{◌≡◌, ℕ, List, Bool, true, false, not, ◌&&◌, Option, Some, None, refl, ap, ◌∙◌, subst, inl, inr}
 use Rattle.std.specs.Prelude.{◌↔◌, if◌then◌else◌, is_some, length}
-use Rattle.std.proofs.lemmas.Bool.{and_from, and_parts, false≢true, not-true, or_cases, or_right}
+use Rattle.std.proofs.lemmas.Bool.{and_from, and_parts, false≢true, or_right}
 use Rattle.kms_model.specs.declared.objects.ObjId.{ObjId}
 use Rattle.kms_model.specs.declared.objects.Topology.{Topology}
 use Rattle.kms_model.specs.declared.replies.Reply.TheVariants as reply
@@ -14,24 +14,20 @@ use Rattle.kms_model.specs.Machine.Effects.{busy_reply, commit_numbered, refusal
 use Rattle.kms_model.specs.Machine.Histories.{at, is_history, legal, steps_that_move}
 use Rattle.kms_model.specs.Machine.State.{Machine, doing_at, request_at}
 use Rattle.kms_model.specs.Machine.Steps.{first_pending, holds_touched, is_pending, is_taking, lacks_space, may, may_refuse, space_used}
-use Rattle.kms_model.specs.Machine.Steps.{taking_at}
 use Rattle.kms_model.specs.Promises.{IsBusyFor}
 use Rattle.kms_model.specs.Request.Flags.{is_nonblock, is_test}
 use Rattle.kms_model.specs.Request.Sets.{obj_id}
 use Rattle.kms_model.specs.Request.Touched.{touches}
 use Rattle.kms_model.specs.Request.Verdict.{early_in, late_in, verdict}
+use Rattle.kms_model.proofs.Guards.IsRefusing.{Busy, Early, Full, Late}
+use Rattle.kms_model.proofs.Guards.{legal_guards, may_legal, refuse_guards, taking_passes}
 use Rattle.kms_model.proofs.Items.{list_any-has}
 use Rattle.kms_model.proofs.SoundKept.{accepted-parts}
 use Rattle.kms_laws.proofs.Basics.{both_bools}
 use Rattle.kms_laws.proofs.ClientProgress.{of_client, taking-from, with_request}
 use Rattle.kms_laws.proofs.NeverStuck.{Along, history_along, still-going}
 use Rattle.kms_model.proofs.ThingLemmas.{find-holds}
-use Rattle.kms_laws.proofs.Steps.{IsPlainScript, taking-some}
-
-refuse-may : (s : Script) (m : Machine) (client : ℕ) → legal s m (Refuse client) ≡ true
-    → taking_at s m client (may_refuse s.topology m client) ≡ true
-unfolding legal may
-refuse-may s m client h = (and_parts (not m.stalled) _ h).1
+use Rattle.kms_laws.proofs.Steps.{IsPlainScript}
 
 -- what may be refused late, where nothing else is wrong
 record IsLate (t : Topology) (m : Machine) (client : ℕ) (r : Request) : Type 0 where
@@ -41,23 +37,14 @@ record IsLate (t : Topology) (m : Machine) (client : ℕ) (r : Request) : Type 0
 
 late-from : (t : Topology) (m : Machine) (client : ℕ) (r : Request) → may_refuse t m client r ≡ true → verdict t m.device.world r ≡ None
     → lacks_space t m client r ≡ false → IsLate t m client r
-unfolding may_refuse
 late-from t m client r h none space =
     let parts = accepted-parts t m.device.world r none in
-    ⊎_elim
-    (λ early. absurd (both_bools _ early (ap is_some parts.first_none)))
-    (λ rest.
-    let held = and_parts (holds_touched t m client r) _ rest in
-    ⊎_elim
-    (λ late. absurd (both_bools _ late (ap is_some parts.second_none)))
-    (λ refused_late.
-    let two = and_parts (not (is_test r.flags)) _ refused_late in
-    ⊎_elim
-    (λ lacks. absurd (both_bools _ lacks space))
-    (λ busy. record { held = held.0; no_test = not-true _ two.0; nonblock = (and_parts (is_nonblock r.flags) _ busy).0 })
-    (or_cases (lacks_space t m client r) _ two.1))
-    (or_cases (is_some (late_in t m.device.world r)) _ held.1))
-    (or_cases (is_some (early_in t m.device.world r)) _ h)
+    elim (refuse_guards t m client r h) [
+      | Early early ↦ absurd (both_bools _ early (ap is_some parts.first_none))
+      | Late held late ↦ absurd (both_bools _ late (ap is_some parts.second_none))
+      | Full held no_test full ↦ absurd (both_bools _ full space)
+      | Busy held no_test nonblock pending ↦ record { held = held; no_test = no_test; nonblock = nonblock }
+    ]
 
 -- the first pending object has a commit before
 pending-previous : (t : Topology) (m : Machine) (r : Request) (object : ℕ) → first_pending t m r ≡ Some object
@@ -148,11 +135,6 @@ going-on s m client r object A e taking B =
     (of_client s m client (Refuse client) (with_request s m client r e) (inr (inr (inr (inl refl)))))
     (busy-may s m client r object e taking B))
 
-refuse-legal : (s : Script) (m : Machine) (client : ℕ) → m.stalled ≡ false → may s m (Refuse client) ≡ true → legal s m (Refuse client)
-    ≡ true
-unfolding legal
-refuse-legal s m client going h = and_from _ _ (ap not going) h
-
 busy-answer : (s : Script) (m : Machine) (client : ℕ) (r : Request) (object k : ℕ) → IsBusyFor s.topology m client r object
     → previous s.topology m.device.commits (length m.device.commits) object ≡ Some k
     → refusal_reply s.topology m client r (verdict s.topology m.device.world r) ≡ reply.Busy (obj_id object) k
@@ -169,10 +151,10 @@ pub cause_of_busy : (s : Script) (h : List Step) → IsPlainScript s → is_hist
     ↔ (IsBusyFor s.topology (at s h) client r object
     × (previous s.topology (at s h).device.commits (length (at s h).device.commits) object ≡ Some k))
 cause_of_busy s h plain is client r object k e taking = (
-  (λ both. is-busy s (at s h) client r object k (taking-some s (at s h) client (may_refuse s.topology (at s h) client) r e
-      (refuse-may s (at s h) client both.0)) both.1),
+  (λ both. is-busy s (at s h) client r object k (taking_passes s (at s h) client (may_refuse s.topology (at s h) client)
+      (legal_guards s (at s h) (Refuse client) both.0) r e) both.1),
   (λ both. (
-    refuse-legal s (at s h) client (going-on s (at s h) client r object (history_along s h plain is) e taking both.0)
+    may_legal s (at s h) (Refuse client) (going-on s (at s h) client r object (history_along s h plain is) e taking both.0)
         (busy-may s (at s h) client r object e taking both.0),
     busy-answer s (at s h) client r object k both.0 both.1,
   )),

@@ -9,12 +9,13 @@ use Rattle.kms_model.specs.Machine.Commits.{has_number, lockable}
 use Rattle.kms_model.specs.Machine.Histories.{at, is_history}
 use Rattle.kms_model.specs.Machine.State.{doing_at, holder_at}
 use Rattle.kms_model.specs.Machine.Steps.{is_taking, must_back_off, returning_of}
+use Rattle.kms_model.proofs.Facts.{value-is}
 use Rattle.kms_model.proofs.Items.{IsIn, list_any-has}
 use Rattle.kms_laws.specs.Laws.{ContextsStand}
 use Rattle.kms_laws.proofs.Contexts.{may_hold}
 use Rattle.kms_laws.proofs.LockSteps.{contended-asked}
 use Rattle.kms_laws.proofs.NeverStuck.{history_facts}
-use Rattle.kms_laws.proofs.Steps.{IsPlainScript, value-is}
+use Rattle.kms_laws.proofs.Steps.{IsPlainScript}
 
 pub in-number : (xs : List ℕ) (o : ℕ) → IsIn o xs → has_number xs o ≡ true
 in-number xs o is = list_any-has (λ m. m == o) xs o is (eq-eqb o o refl)

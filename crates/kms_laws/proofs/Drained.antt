@@ -1,7 +1,7 @@
 -- In a drained history no step may be done but a vblank without GO.
 use Rattle.std.proofs.Common.{◌≡◌, ℕ, ◌<◌, length, true, false, not, ◌&&◌, Option, Some, None, refl, ap, subst, arith, inl, inr, ⊎_elim}
 use Rattle.std.specs.Prelude.{is_some, nat_lt}
-use Rattle.std.specs.List.{flat_map, list_all, range_with_len}
+use Rattle.std.specs.List.{flat_map, range_with_len}
 use Rattle.std.proofs.lemmas.Bool.{and_left, and_parts, and_right, false_from_ne_true}
 use Rattle.kms_model.specs.declared.objects.Kind.{Kind}
 use Rattle.kms_model.specs.declared.objects.Kind.TheVariants.{Crtc, Plane}
@@ -10,12 +10,13 @@ use Rattle.kms_model.specs.declared.replies.Step.TheVariants.{Claim, Cleanup, Fl
 use Rattle.kms_model.specs.declared.scripts.Script.{Script}
 use Rattle.kms_model.specs.Device.Objects.{count_of, exists, ids_of, object_id}
 use Rattle.kms_model.specs.Machine.Commits.{commit_names, commit_touches, has_number, has_pair, is_all_flushed, is_all_latched}
-use Rattle.kms_model.specs.Machine.Commits.{is_all_written, is_claimed, is_cleaned, is_hw_done, registered}
-use Rattle.kms_model.specs.Machine.Histories.{client_numbers, commit_numbers, for_each, is_at_end, is_drained, steps_of_client}
+use Rattle.kms_model.specs.Machine.Commits.{is_all_written, is_claimed, is_hw_done, registered}
+use Rattle.kms_model.specs.Machine.Histories.{client_numbers, commit_numbers, for_each, is_drained, steps_of_client}
 use Rattle.kms_model.specs.Machine.Histories.{steps_of_commit, steps_that_move, steps_with_go}
 use Rattle.kms_model.specs.Machine.State.{Machine, go_at, has_value}
 use Rattle.kms_model.specs.Machine.Steps.{may, may_claim, next_flush, next_write}
-use Rattle.kms_model.proofs.Items.{IsIn, ids-has, list_all-at, list_any-none}
+use Rattle.kms_model.proofs.Guards.{drained_guards}
+use Rattle.kms_model.proofs.Items.{IsIn, ids-has, list_any-none}
 use Rattle.kms_laws.specs.Laws.{can_move}
 use Rattle.kms_laws.proofs.Basics.{both_bools, in_either}
 use Rattle.kms_laws.proofs.Framebuffers.{range-below}
@@ -116,20 +117,17 @@ module _ (s : Script) (m : Machine) (H : Holds s m) where
           (H.tail.marks.flushed k c p.flushed).names) p.unlatched
 
   pub drained-unable : is_drained s m ≡ true → can_move s m ≡ false
-  unfolding is_drained
   drained-unable h =
-      let both = and_parts (list_all (is_at_end s m) (client_numbers s)) _ h in
-      let clean : (k : ℕ) → IsIn k (commit_numbers m) → has_number m.device.marks.cleaned k
-      ≡ true = (λ k ik. list_all-at (is_cleaned m.device) (commit_numbers m) k both.1 ik) in
+      let drained = drained_guards s m h in
       list_any-none (may s m) (steps_that_move s m)
       (λ step is.
       ⊎_elim
       (λ c. let r = flat-from (steps_of_client s.topology) (client_numbers s) step c
-      in ended-fails s m r.number (list_all-at (is_at_end s m) (client_numbers s) r.number both.0 r.is_in) step r.has)
+      in ended-fails s m r.number (drained.at_end r.number r.is_in) step r.has)
       (λ rest.
       ⊎_elim
       (λ k. let r = flat-from (steps_of_commit s.topology) (commit_numbers m) step k
-      in no_step r.number (clean r.number r.is_in) step r.has)
-      (λ g. no_go (λ k l. clean k (range-in 0 (length m.device.commits) k (omega arith) (omega (arith, l)))) step g)
+      in no_step r.number (drained.cleaned r.number r.is_in) step r.has)
+      (λ g. no_go (λ k l. drained.cleaned k (range-in 0 (length m.device.commits) k (omega arith) (omega (arith, l)))) step g)
       (in_either (flat_map (steps_of_commit s.topology) (commit_numbers m)) (steps_with_go s.topology m) step rest))
       (in_either (flat_map (steps_of_client s.topology) (client_numbers s)) _ step is))

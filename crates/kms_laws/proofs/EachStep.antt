@@ -1,7 +1,7 @@
 -- One way over all steps, case by case, for what speaks of the whole machine and of the step that was done.
-use Rattle.std.proofs.Common.{◌≡◌, ℕ, ◌+◌, List, [], ◌∷◌, length, Bool, true, false, ◌&&◌, ◌||◌, Option, Some, None, refl, sym, ap, ◌∙◌}
-use Rattle.std.specs.Prelude.{if◌then◌else◌, not}
-use Rattle.std.proofs.lemmas.Bool.{and_parts, false≢true, not-true, or_parts}
+use Rattle.std.proofs.Common.{◌≡◌, ℕ, ◌+◌, List, [], ◌∷◌, length, Bool, true, false, Option, Some, None}
+use Rattle.std.proofs.Common.{refl, sym, subst}
+use Rattle.std.specs.Prelude.{if◌then◌else◌}
 use Rattle.kms_model.specs.declared.objects.Kind.{Kind}
 use Rattle.kms_model.specs.declared.objects.Kind.TheVariants.{Crtc}
 use Rattle.kms_model.specs.declared.objects.Topology.{Topology}
@@ -19,73 +19,28 @@ use Rattle.kms_model.specs.declared.scripts.Request.{Request}
 use Rattle.kms_model.specs.declared.scripts.Script.{Script}
 use Rattle.kms_model.specs.declared.worlds.World.{World}
 use Rattle.kms_model.specs.Device.Execution.{Executed, execute}
-use Rattle.kms_model.specs.Device.Objects.{exists, ids_of, object_id}
+use Rattle.kms_model.specs.Device.Objects.{ids_of, object_id}
 use Rattle.kms_model.specs.Device.Serial.{Entry, is_accepted}
-use Rattle.kms_model.specs.Machine.Commits.{asks_event, commit_touches, has_number, has_pair, is_all_flushed, is_all_latched}
-use Rattle.kms_model.specs.Machine.Commits.{is_all_written, is_cleaned, is_hw_done, new_crtc, out_fence_of, registered}
+use Rattle.kms_model.specs.Machine.Commits.{asks_event, has_number, is_all_flushed, is_all_latched}
+use Rattle.kms_model.specs.Machine.Commits.{is_all_written, is_cleaned, is_hw_done, new_crtc, out_fence_of}
 use Rattle.kms_model.specs.Machine.Effects.{answers, backed_off, begun, blanks, claims, counts_vblank, decided, delivers, drops_locks}
 use Rattle.kms_model.specs.Machine.Effects.{fence_signalled, flushes, goes_on, joins_if, joins_journal, latches, latches_picture, locked}
 use Rattle.kms_model.specs.Machine.Effects.{made_thing, next, now_doing, put_lock, reads, refusal_reply, refused, relocked, sets_up}
 use Rattle.kms_model.specs.Machine.Effects.{signalled_by, signals, swapped_state, writes}
 use Rattle.kms_model.specs.Machine.Histories.{legal}
-use Rattle.kms_model.specs.Machine.State.{Commit, Contexts, DeviceState, Machine, command_at, count_at, doing_at, go_at, holder_at}
+use Rattle.kms_model.specs.Machine.State.{Commit, Contexts, Machine, command_at, count_at, doing_at, go_at, holder_at}
 use Rattle.kms_model.specs.Machine.State.{request_at, reserved_at, unread_at}
-use Rattle.kms_model.specs.Machine.Steps.{contended, holds_touched, idle_at, is_accepted_at, is_atomic, is_busy, is_crtc_of, is_idle}
-use Rattle.kms_model.specs.Machine.Steps.{is_lockable, is_making, is_refused_late, is_signal, is_taking, is_wait, lacks_space, may}
-use Rattle.kms_model.specs.Machine.Steps.{may_claim, may_lock, may_refuse, may_swap, may_test, must_back_off, next_flush, next_write}
-use Rattle.kms_model.specs.Machine.Steps.{returning_of, taking_at, ticket_of}
-use Rattle.kms_model.specs.Request.Flags.{is_nonblock, is_test, wants_event}
+use Rattle.kms_model.specs.Machine.Steps.{contended, is_atomic, is_idle}
+use Rattle.kms_model.specs.Machine.Steps.{is_lockable, is_making, is_signal, is_taking, is_wait}
+use Rattle.kms_model.specs.Machine.Steps.{may_claim, may_lock, may_refuse, may_swap, may_test, must_back_off}
+use Rattle.kms_model.specs.Machine.Steps.{returning_of, ticket_of}
+use Rattle.kms_model.specs.Request.Flags.{is_nonblock, wants_event}
 use Rattle.kms_model.specs.Request.Named.{named}
 use Rattle.kms_model.specs.Request.Sets.{obj_id}
 use Rattle.kms_model.specs.Request.Verdict.{verdict}
 use Rattle.kms_model.proofs.Items.{IsIn}
-use Rattle.kms_laws.proofs.Steps.{IsFlush, IsLegal, crtc_of_step, flush-found, flushed_at, idle-none, idle-some, legal-cases, none-is}
-use Rattle.kms_laws.proofs.Steps.{request-is, taking-none, taking-some, value-is}
-use Rattle.kms_laws.proofs.Steps.IsLegal.{Ends, May}
-use Rattle.kms_model.proofs.ThingLemmas.{find-holds, find-in}
-
--- what a write finds
-pub record IsWrite (t : Topology) (d : DeviceState) (k o : ℕ) : Type 0 where
-  pub claimed : has_number d.marks.claimed k ≡ true
-  pub is_registered : IsIn o (registered t)
-  pub touches : commit_touches t d.commits k o ≡ true
-  pub fresh : has_pair d.marks.written k o ≡ false
-
-pub write-found : (t : Topology) (d : DeviceState) (k o : ℕ) → has_number d.marks.claimed k ≡ true → next_write t d k ≡ Some o
-    → IsWrite t d k o
-unfolding next_write
-write-found t d k o claimed e =
-    let test = λ (object : ℕ). commit_touches t d.commits k object && not (has_pair d.marks.written k object) in
-    let two = and_parts (commit_touches t d.commits k o) _ (find-holds test (registered t) o e) in
-    record {
-      claimed = claimed;
-      is_registered = find-in test (registered t) o e;
-      touches = two.0;
-      fresh = not-true
-          (has_pair d.marks.written k o) two.1;
-    }
-
--- what a swap finds
-pub record IsSwap (t : Topology) (m : Machine) (client : ℕ) (r : Request) : Type 0 where
-  pub no_test : is_test r.flags ≡ false
-  pub held : holds_touched t m client r ≡ true
-  pub accepted : verdict t m.device.world r ≡ None
-  pub space : lacks_space t m client r ≡ false
-
-pub swap-found : (t : Topology) (m : Machine) (client : ℕ) (r : Request) → may_swap t m client r ≡ true → IsSwap t m client r
-unfolding may_swap
-swap-found t m client r h =
-    let a = and_parts (not (is_test r.flags)) _ h in
-    let b = and_parts (holds_touched t m client r) _ a.1 in
-    let c = and_parts (is_accepted_at t m r) _ b.1 in
-    let d = not-true (is_refused_late t m client r) (and_parts (not (is_refused_late t m client r)) _ c.1).0 in
-    record {
-      no_test = not-true (is_test r.flags) a.0;
-      held = b.0;
-      accepted = none-is (verdict t m.device.world r) c.0;
-      space = (or_parts (lacks_space t m client r) (is_busy t m r)
-          (sym (ap (λ b. b && (lacks_space t m client r || is_busy t m r)) a.0) ∙ d)).0;
-    }
+use Rattle.kms_model.proofs.Guards.{Guards, IsFlush, IsIdleAt, IsRelocking, IsTakingAt, IsWrite, claim_from, legal_guards, lock_from}
+use Rattle.kms_laws.proofs.Steps.{flushed_at, request-is}
 
 -- Cases
 
@@ -266,34 +221,12 @@ tails_leave s m Q same = record {
       (λ fence. now)
 
 module _ (s : Script) (m : Machine) (P : Step → Machine → Type 0) (K : Carries s m P) where
-  idle-is : (client : ℕ) (test : Command → Bool) → idle_at s m client test ≡ true → is_idle (doing_at m client) ≡ true
-  idle-is client test h = (and_parts (is_idle (doing_at m client)) _ h).0
-
-  taking-is : (client : ℕ) (test : Request → Bool) → taking_at s m client test ≡ true → is_taking (doing_at m client) ≡ true
-  taking-is client test h = (and_parts (is_taking (doing_at m client)) _ h).0
-
-  -- at the command of a client that is idle
-  at_command : (client : ℕ) (test : Command → Bool) (Q : Option Command → Type 0) → idle_at s m client test ≡ true
-      → ((c : Command) → command_at s m client ≡ Some c → test c ≡ true → is_idle (doing_at m client) ≡ true → Q (Some c))
-      → Q (command_at s m client)
-  at_command client test Q h each = go (command_at s m client) refl
-    where
-      go : (o : Option Command) → command_at s m client ≡ o → Q o
-      go None e = absurd (idle-none s m client test e h)
-      go (Some c) e = each c e (idle-some s m client test c e h) (idle-is client test h)
-
   -- at the request of a client that takes locks
-  at_request : (client : ℕ) (test : Request → Bool) (Q : Option Request → Type 0) → taking_at s m client test ≡ true
+  at_request : (client : ℕ) (test : Request → Bool) (Q : Option Request → Type 0) → IsTakingAt s m client test
       → ((r : Request) → command_at s m client ≡ Some (command.Atomic r) → is_taking (doing_at m client) ≡ true → test r ≡ true
       → Q (Some r)) → Q (request_at s m client)
-  at_request client test Q h each = go (request_at s m client) refl
-    where
-      go : (o : Option Request) → request_at s m client ≡ o → Q o
-      go None e = absurd (taking-none s m client test e h)
-      go (Some r) e = each r (request-is (command_at s m client) r e) (taking-is client test h) (taking-some s m client test r e h)
-
-  begin_case : (client : ℕ) → idle_at s m client is_atomic ≡ true → P (Begin client) (begun m client)
-  begin_case client h = at_command client is_atomic (λ o. P (Begin client) (begun m client)) h (K.locks.begins client)
+  at_request client test Q g each =
+      subst Q (sym g.stands) (each g.request (request-is (command_at s m client) g.request g.stands) g.taking g.passes)
 
   lock_case : (client : ℕ) (kind : Kind) (index : ℕ) → is_lockable s.topology kind index ≡ true → may_lock s m client (object_id kind index)
       ≡ true
@@ -304,42 +237,40 @@ module _ (s : Script) (m : Machine) (P : Step → Machine → Type 0) (K : Carri
       go None e = K.locks.takes client kind index there h e
       go (Some holder) e = K.locks.meets client kind index holder there h e
 
-  relock_case : (client : ℕ) → may s m (Relock client) ≡ true → P (Relock client) (relocked m client (contended (doing_at m client)))
-  unfolding may
-  relock_case client h = go (contended (doing_at m client)) refl
-    where
-      go : (o : Option ℕ) → contended (doing_at m client) ≡ o → P (Relock client) (relocked m client o)
-      go None e = let g = rw e at h in absurd (false≢true g)
-      go (Some object) e = let g = rw e at h in K.locks.relocks client object e (none-is (holder_at m object) g)
+  relock_case : (client : ℕ) → IsRelocking m client → P (Relock client) (relocked m client (contended (doing_at m client)))
+  relock_case client g =
+      subst (λ o. P (Relock client) (relocked m client o)) (sym g.contends) (K.locks.relocks client g.object g.contends g.free)
 
-  refuse_case : (client : ℕ) → taking_at s m client (may_refuse s.topology m client) ≡ true
+  refuse_case : (client : ℕ) → IsTakingAt s m client (may_refuse s.topology m client)
       → P (Refuse client) (refused s.topology m client (request_at s m client))
   unfolding refused
-  refuse_case client h = at_request client (may_refuse s.topology m client) (λ o. P (Refuse client) (refused s.topology m client o)) h
+  refuse_case client g = at_request client (may_refuse s.topology m client) (λ o. P (Refuse client) (refused s.topology m client o)) g
       (K.answers.refuses client)
 
-  test_case : (client : ℕ) → taking_at s m client (may_test s.topology m client) ≡ true → P (Test client) (decided m client reply.Tested)
-  test_case client h = at_request client (may_test s.topology m client) (λ o. P (Test client) (decided m client reply.Tested)) h
+  test_case : (client : ℕ) → IsTakingAt s m client (may_test s.topology m client) → P (Test client) (decided m client reply.Tested)
+  test_case client g = at_request client (may_test s.topology m client) (λ o. P (Test client) (decided m client reply.Tested)) g
       (K.answers.tests client)
 
-  swap_case : (client : ℕ) → taking_at s m client (may_swap s.topology m client) ≡ true
+  swap_case : (client : ℕ) → IsTakingAt s m client (may_swap s.topology m client)
       → P (Swap client) (swapped_state s.topology m client (request_at s m client))
   unfolding swapped_state
-  swap_case client h =
-      at_request client (may_swap s.topology m client) (λ o. P (Swap client) (swapped_state s.topology m client o)) h
+  swap_case client g =
+      at_request client (may_swap s.topology m client) (λ o. P (Swap client) (swapped_state s.topology m client o)) g
       (λ r e taking may. K.answers.swaps client r e taking may (wants_event r.flags) (is_nonblock r.flags) refl refl)
 
-  make_case : (client : ℕ) → idle_at s m client is_making ≡ true → P (Make client) (made_thing s.topology m client (command_at s m client))
+  make_case : (client : ℕ) → IsIdleAt s m client is_making → P (Make client) (made_thing s.topology m client (command_at s m client))
   unfolding made_thing
-  make_case client h =
-      at_command client is_making (λ o. P (Make client) (made_thing s.topology m client o)) h
-      (λ c e making idle. K.answers.makes client c e making idle (is_accepted (execute s.topology m.device.world client c).reply) refl)
+  make_case client g =
+      subst (λ o. P (Make client) (made_thing s.topology m client o)) (sym g.stands)
+      (K.answers.makes client g.command g.stands g.passes g.idle
+      (is_accepted (execute s.topology m.device.world client g.command).reply) refl)
 
-  signal_case : (client : ℕ) → idle_at s m client is_signal ≡ true
+  signal_case : (client : ℕ) → IsIdleAt s m client is_signal
       → P (Signal client) (signalled_by s.topology m client (command_at s m client))
-  signal_case client h =
-      at_command client is_signal (λ o. P (Signal client) (signalled_by s.topology m client o)) h
-      (λ c e is idle. signalled c (K.answers.signalled client c e is idle) c (execute s.topology m.device.world client c).reply)
+  signal_case client g =
+      subst (λ o. P (Signal client) (signalled_by s.topology m client o)) (sym g.stands)
+      (signalled g.command (K.answers.signalled client g.command g.stands g.passes g.idle) g.command
+      (execute s.topology m.device.world client g.command).reply)
     where
       signalled : (c : Command) → ((o : Option ℕ) → P (Signal client)
           (goes_on (signals (answers m client (execute s.topology m.device.world client c).reply) o) client)) → (q : Command) (r : Reply)
@@ -348,15 +279,12 @@ module _ (s : Script) (m : Machine) (P : Step → Machine → Type 0) (K : Carri
       signalled c all (command.Signal label) reply.Done = all _
       signalled c all _ _ = all None
 
-  read_case : (client : ℕ) → idle_at s m client is_wait ≡ true → P (Read client) (reads m client (unread_at m.events client))
-  read_case client h =
-      at_command client is_wait (λ o. P (Read client) (reads m client (unread_at m.events client))) h
-      (λ c e is idle. by_events c e is idle (unread_at m.events client) refl)
+  read_case : (client : ℕ) → IsIdleAt s m client is_wait → P (Read client) (reads m client (unread_at m.events client))
+  read_case client g = by_events (unread_at m.events client) refl
     where
-      by_events : (c : Command) → command_at s m client ≡ Some c → is_wait c ≡ true → is_idle (doing_at m client) ≡ true
-          → (events : List Event) → unread_at m.events client ≡ events → P (Read client) (reads m client events)
-      by_events c e is idle [] u = K.answers.read_none client c e is idle u
-      by_events c e is idle (event ∷ events) u = K.answers.read_one client c e is idle event events u
+      by_events : (events : List Event) → unread_at m.events client ≡ events → P (Read client) (reads m client events)
+      by_events [] u = K.answers.read_none client g.command g.stands g.passes g.idle u
+      by_events (event ∷ events) u = K.answers.read_one client g.command g.stands g.passes g.idle event events u
 
   flush_case : (k : ℕ) (kind : Kind) (index : ℕ) → is_all_written s.topology m.device k ≡ true
       → IsFlush s.topology m k (object_id kind index) → P (Flush k kind index) (flushes s.topology m k (object_id kind index))
@@ -384,59 +312,27 @@ module _ (s : Script) (m : Machine) (P : Step → Machine → Type 0) (K : Carri
       go (Some k) e = K.tails.blanked kind index k i e (asks_event s.topology m.device.commits k)
           (out_fence_of s.topology m.device.commits k (object_id kind index)) refl refl
 
-  return_case : (client : ℕ) → may s m (Return client) ≡ true → P (Return client) (goes_on m client)
-  unfolding may
-  return_case client h = go (returning_of (doing_at m client)) refl
-    where
-      go : (o : Option ℕ) → returning_of (doing_at m client) ≡ o → P (Return client) (goes_on m client)
-      go None e = let g = rw e at h in absurd (false≢true g)
-      go (Some k) e = let g = rw e at h in K.locks.returned client k e g
-
-  may_case : (step : Step) → legal s m step ≡ true → may s m step ≡ true → P step (next s m step)
-  unfolding may next
-  may_case (Begin client) l h = begin_case client h
-  may_case (Lock client kind index) l h = let both = and_parts (is_lockable s.topology kind index) _ h
-      in lock_case client kind index both.0 both.1
-  may_case (BackOff client) l h = K.locks.backs client h
-  may_case (Relock client) l h = relock_case client h
-  may_case (Refuse client) l h = refuse_case client h
-  may_case (Test client) l h = test_case client h
-  may_case (Swap client) l h = swap_case client h
-  may_case (Make client) l h = make_case client h
-  may_case (Signal client) l h = signal_case client h
-  may_case (Claim k) l h = K.tails.claimed k h
-  may_case (Write k kind index) l h =
-      let a = and_parts (has_number m.device.marks.claimed k) _ h in
-      let b = and_parts (exists s.topology kind index) _ a.1 in
-      K.tails.written k kind index (write-found s.topology m.device k (object_id kind index) a.0
-      (value-is (object_id kind index) (next_write s.topology m.device k) b.1))
-  may_case (Flush k kind index) l h =
-      let a = and_parts (is_all_written s.topology m.device k) _ h in
-      let b = and_parts (exists s.topology kind index) _ a.1 in
-      flush_case k kind index a.0 (flush-found s.topology m k (object_id kind index)
-      (value-is (object_id kind index) (next_flush s.topology m.device k) b.1))
-  may_case (HwDone k) l h =
-      let a = and_parts (has_number m.device.marks.claimed k) _ h in
-      let b = and_parts (is_all_written s.topology m.device k) _ a.1 in
-      let c = and_parts (is_all_flushed s.topology m.device k) _ b.1 in
-      K.tails.done k a.0 b.0 c.0 (not-true (is_hw_done m.device k) c.1)
-  may_case (Vblank kind index) l h = vblank_case kind index
-      (crtc_of_step s.topology kind index (and_parts (is_crtc_of s.topology kind index) _ h).0)
-  may_case (Cleanup k) l h =
-      let a = and_parts (is_hw_done m.device k) _ h in
-      let b = and_parts (is_all_latched s.topology m.device m.records.latches k) _ a.1 in
-      K.tails.cleaned k a.0 b.0 (not-true (is_cleaned m.device k) b.1)
-  may_case (Read client) l h = read_case client (and_parts (idle_at s m client is_wait) _ h).0
-  may_case (Return client) l h = return_case client h
-  may_case Stall l h = absurd (false≢true h)
-
-  stall_case : legal s m Stall ≡ true → P Stall (next s m Stall)
+  guarded_case : (step : Step) → legal s m step ≡ true → Guards s m step → P step (next s m step)
   unfolding next
-  stall_case h = K.stalled h
+  guarded_case (Begin client) l g = K.locks.begins client g.command g.stands g.passes g.idle
+  guarded_case (Lock client kind index) l g =
+      lock_case client kind index g.lockable (lock_from s m client (object_id kind index) g.may_lock)
+  guarded_case (BackOff client) l g = K.locks.backs client g
+  guarded_case (Relock client) l g = relock_case client g
+  guarded_case (Refuse client) l g = refuse_case client g
+  guarded_case (Test client) l g = test_case client g
+  guarded_case (Swap client) l g = swap_case client g
+  guarded_case (Make client) l g = make_case client g
+  guarded_case (Signal client) l g = signal_case client g
+  guarded_case (Claim k) l g = K.tails.claimed k (claim_from s.topology m k g)
+  guarded_case (Write k kind index) l g = K.tails.written k kind index g.write
+  guarded_case (Flush k kind index) l g = flush_case k kind index g.written g.flush
+  guarded_case (HwDone k) l g = K.tails.done k g.claimed g.written g.flushed g.undone
+  guarded_case (Vblank kind index) l g = vblank_case kind index g.is_crtc
+  guarded_case (Cleanup k) l g = K.tails.cleaned k g.done g.latched g.kept
+  guarded_case (Read client) l g = read_case client g.waits
+  guarded_case (Return client) l g = K.locks.returned client g.commit g.returns g.cleaned
+  guarded_case Stall l g = K.stalled l
 
   pub each_step : (step : Step) → legal s m step ≡ true → P step (next s m step)
-  each_step step h = go step (legal-cases s m step h) h
-    where
-      go : (step : Step) → IsLegal s m step → legal s m step ≡ true → P step (next s m step)
-      go step Ends h = stall_case h
-      go step (May may) h = may_case step h may
+  each_step step h = guarded_case step h (legal_guards s m step h)

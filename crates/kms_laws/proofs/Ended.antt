@@ -1,6 +1,6 @@
 -- The commands in the journal have their answers: a client that has an acquire context is not at one of them.
 use Rattle.std.proofs.Common.{◌≡◌, ℕ, ◌+◌, ◌<◌, ◌≤◌, true, List, ◌∷◌, length, inl, inr, sym, ap, subst, arith, ⊎_elim}
-use Rattle.std.proofs.lemmas.Bool.{and_parts, cases_eq}
+use Rattle.std.proofs.lemmas.Bool.{cases_eq}
 use Rattle.kms_model.specs.declared.replies.Step.{Step}
 use Rattle.kms_model.specs.declared.runs.Doing.{Doing}
 use Rattle.kms_model.specs.declared.runs.Doing.TheVariants as doing
@@ -12,9 +12,9 @@ use Rattle.kms_model.specs.Device.Serial.{Entry}
 use Rattle.kms_model.specs.Machine.Effects.{answers, backed_off, goes_on, signals}
 use Rattle.kms_model.specs.Machine.Histories.{at, is_history}
 use Rattle.kms_model.specs.Machine.State.{Machine, doing_at, first_machine, place_at}
-use Rattle.kms_model.specs.Machine.Steps.{is_taking, may_lock, taking_at, ticket_of}
-use Rattle.kms_model.specs.Request.Reach.{reaches}
+use Rattle.kms_model.specs.Machine.Steps.{ticket_of}
 use Rattle.kms_model.specs.Request.Sets.{obj_id}
+use Rattle.kms_model.proofs.Guards.{lock_guards}
 use Rattle.kms_model.proofs.Items.{IsIn}
 use Rattle.kms_laws.proofs.Basics.{read_other, read_same}
 use Rattle.kms_laws.proofs.EachStep.{Carries, by_bool, by_fence, by_two, each_step, made_as, swapped_as, tails_leave}
@@ -55,11 +55,6 @@ joined places journal x p over up all e (inr later) = moved places journal x p u
 abbrev pub HasEnded : Machine → Type 0
 HasEnded m = AreEnded m.contexts.places m.records.journal
 
-pub lock-taking : (s : Script) (m : Machine) (client object : ℕ) → may_lock s m client object ≡ true → is_taking (doing_at m client) ≡ true
-unfolding may_lock
-lock-taking s m client object h = (and_parts (is_taking (doing_at m client)) _
-    (and_parts (taking_at s m client (λ r. reaches s.topology m.device.world r object)) _ h).0).0
-
 module _ (s : Script) (m : Machine) (all : HasEnded m) where
   keeps_on : (client : ℕ) (d : Doing) → answered (doing_at m client) ≡ 0
       → AreEnded ((client, record { command = (place_at m client).command; doing = d }) ∷ m.contexts.places) m.records.journal
@@ -95,7 +90,7 @@ module _ (s : Script) (m : Machine) (all : HasEnded m) where
       takes = λ client kind index is_there lock free. all;
       meets = λ client kind index holder is_there lock held.
           keeps_on client (doing.MustBackOff (record { 0 = ticket_of (doing_at m client) }) (obj_id (object_id kind index)))
-          (taking-busy (doing_at m client) (lock-taking s m client (object_id kind index) lock)).1;
+          (taking-busy (doing_at m client) (lock_guards s m client (object_id kind index) lock).reaching.taking).1;
       backs = λ client back. keeps_on client (backed_off (doing_at m client)) (back-busy (doing_at m client) back).0.1;
       relocks = λ client object asked free. keeps_on client (doing.Taking (record { 0 = ticket_of (doing_at m client) }))
           (contended-busy (doing_at m client) object asked).1;

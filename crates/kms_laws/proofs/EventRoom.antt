@@ -16,13 +16,14 @@ use Rattle.kms_model.specs.Machine.State.{Events, Machine, count_at, go_at, rese
 use Rattle.kms_model.specs.Machine.Steps.{lacks_space, may_swap, space_used}
 use Rattle.kms_model.specs.Request.Flags.{wants_event}
 use Rattle.kms_model.specs.Request.Named.{named}
+use Rattle.kms_model.proofs.Guards.{IsFlush, swap_guards}
 use Rattle.kms_model.proofs.Items.{IsIn}
 use Rattle.kms_laws.proofs.Basics.{both_bools, pair_now, read_other, read_same}
-use Rattle.kms_laws.proofs.EachStep.{Carries, by_latch, by_two, latched_as, swap-found, swapped_as}
+use Rattle.kms_laws.proofs.EachStep.{Carries, by_latch, by_two, latched_as, swapped_as}
 use Rattle.kms_laws.proofs.EventsKept.{reserved_some}
 use Rattle.kms_laws.proofs.EventsOnce.{HasEvents, events_carried}
 use Rattle.kms_laws.proofs.Objects.{crtc_index}
-use Rattle.kms_laws.proofs.Steps.{Holds, IsFlush, flushed_at, flushed_holds, fresh-unlatched}
+use Rattle.kms_laws.proofs.Steps.{Holds, flushed_at, flushed_holds, fresh-unlatched}
 use Rattle.kms_laws.proofs.Traversal.{latch_of}
 
 abbrev pub HasRoom : Events → Type 0
@@ -84,7 +85,7 @@ module _ (s : Script) (m : Machine) (H : Holds s m) (E : HasEvents s m) (room : 
       more : wants_event r.flags ≡ true → HasRoom (record m.events
           { reserved = (client, reserved_at m.events client + length (named s.topology m.device.world r)) ∷ m.events.reserved })
       more wants = room_reserved m.events client (reserved_at m.events client + length (named s.topology m.device.world r))
-          (swap-few s.topology m client r (swap-found s.topology m client r may).space wants) room
+          (swap-few s.topology m client r (swap_guards s.topology m client r may).space wants) room
 
   -- the event of a commit becomes unread, where one is reserved
   delivered_room : (k c count : ℕ) → 1 ≤ reserved_at m.events (commit_at s.topology m.device.commits k).client

@@ -16,12 +16,13 @@ use Rattle.kms_model.specs.Machine.State.{Commit, Events, Machine, count_at, fir
 use Rattle.kms_model.specs.Machine.Steps.{may_swap}
 use Rattle.kms_model.specs.Promises.{awaited_events, delivered, events_of}
 use Rattle.kms_model.specs.Request.Flags.{wants_event}
+use Rattle.kms_model.proofs.Guards.{IsFlush}
 use Rattle.kms_model.proofs.Items.{IsIn}
 use Rattle.kms_laws.proofs.Basics.{pair_now}
 use Rattle.kms_laws.proofs.EachStep.{Carries, by_bool, by_fence, by_latch, by_two, each_step, latched_as, locks_leave, made_as, swapped_as}
 use Rattle.kms_laws.proofs.EventsKept.{EventsStand, latch_events, read_events, swap_events}
 use Rattle.kms_laws.proofs.Objects.{crtc_index}
-use Rattle.kms_laws.proofs.Steps.{Holds, IsFlush, IsPlainScript, along, first_kept, flushed_at, flushed_holds, fresh-unlatched, step_kept}
+use Rattle.kms_laws.proofs.Steps.{Holds, IsPlainScript, along, first_kept, flushed_at, flushed_holds, fresh-unlatched, step_kept}
 use Rattle.kms_laws.proofs.Traversal.{commit_of, latch_of}
 use Rattle.kms_model.specs.Machine.Registers.{read}
 

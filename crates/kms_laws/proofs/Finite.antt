@@ -4,7 +4,7 @@ use Rattle.std.proofs.Common.{refl, sym, ap, ◌∙◌, subst, arith, inl, inr, 
 use Rattle.std.specs.Prelude.{if◌then◌else◌, is_some, nat_lt}
 use Rattle.std.specs.List.{range_with_len}
 use Rattle.std.proofs.Math.Nat.{mul-le-mul_right}
-use Rattle.std.proofs.lemmas.Bool.{and_parts, cases_eq, false≢true, ltb-true}
+use Rattle.std.proofs.lemmas.Bool.{cases_eq, false≢true}
 use Rattle.kms_model.specs.declared.replies.Step.{Step}
 use Rattle.kms_model.specs.declared.replies.Step.TheVariants.{Flush, Make, Signal, Stall, Swap, Vblank}
 use Rattle.kms_model.specs.declared.runs.Doing.{Doing}
@@ -12,18 +12,17 @@ use Rattle.kms_model.specs.declared.runs.Doing.TheVariants as doing
 use Rattle.kms_model.specs.declared.runs.Place.{Place}
 use Rattle.kms_model.specs.declared.scripts.Command.{Command}
 use Rattle.kms_model.specs.declared.scripts.Command.TheVariants as command
-use Rattle.kms_model.specs.declared.scripts.Request.{Request}
 use Rattle.kms_model.specs.declared.scripts.Script.{Script}
 use Rattle.kms_model.specs.Device.Execution.{execute}
 use Rattle.kms_model.specs.Device.Objects.{object_id}
 use Rattle.kms_model.specs.Device.Serial.{from_one}
 use Rattle.kms_model.specs.Machine.Effects.{answers, backed_off, counts_vblank, goes_on, next, signals}
 use Rattle.kms_model.specs.Machine.Histories.{client_numbers, legal}
-use Rattle.kms_model.specs.Machine.State.{Contexts, Machine, command_at, count_at, doing_at, entry_at, holder_at, place_at, request_at}
-use Rattle.kms_model.specs.Machine.Steps.{is_free_or_older, is_idle, is_taking, may_claim, may_lock, returning_of, taking_at, ticket_of}
-use Rattle.kms_model.specs.Request.Reach.{reaches}
+use Rattle.kms_model.specs.Machine.State.{Contexts, Machine, command_at, count_at, doing_at, entry_at, holder_at, place_at}
+use Rattle.kms_model.specs.Machine.Steps.{is_free_or_older, is_idle, is_taking, may_lock, returning_of, ticket_of}
 use Rattle.kms_model.specs.Request.Sets.{obj_id}
 use Rattle.kms_model.specs.Script.WellFormed.{IsWellFormed}
+use Rattle.kms_model.proofs.Guards.{claim_guards, legal-going, lock_guards}
 use Rattle.kms_model.proofs.Items.{IsIn}
 use Rattle.kms_model.proofs.TouchedLemmas.{few_objects}
 use Rattle.kms_laws.specs.Laws.{has_context}
@@ -42,8 +41,7 @@ use Rattle.kms_laws.proofs.ShorterTails.{step_lowers, tails_short}
 use Rattle.kms_laws.proofs.Sizes.{IsThere, answered, begun_at, busy, command-there, ended_at, from_one-within, has_commands, length_of}
 use Rattle.kms_laws.proofs.Sizes.{place_of, sum-more, sum-most, sum-one}
 use Rattle.kms_laws.proofs.SmallNumbers.{Counted, answered-busy, few_commands}
-use Rattle.kms_laws.proofs.Stalled.{legal-going}
-use Rattle.kms_laws.proofs.Steps.{flushed_at, flushed_holds, taking-none}
+use Rattle.kms_laws.proofs.Steps.{flushed_at, flushed_holds}
 use Rattle.kms_laws.proofs.Swapped.{flush_within}
 
 -- What clients have done
@@ -97,24 +95,15 @@ module _ (s : Script) (m : Machine) (n : ℕ) (C : Counted s n m) where
   there client c e = command-there s (entry_at m client) c e
 
   lock-client : (client object : ℕ) → may_lock s m client object ≡ true → IsIn client (client_numbers s)
-  unfolding may_lock
-  lock-client client object h = go (request_at s m client) refl
-    where
-      go : (o : Option Request) → request_at s m client ≡ o → IsIn client (client_numbers s)
-      go None e = absurd (taking-none s m client (λ r. reaches s.topology m.device.world r object) e
-          (and_parts (taking_at s m client (λ r. reaches s.topology m.device.world r object)) _ h).0)
-      go (Some r) e = with_request s m client r e
+  lock-client client object h = let g = (lock_guards s m client object h).reaching in with_request s m client g.request g.stands
 
   lock-is : (client object : ℕ) → may_lock s m client object ≡ true → is_taking (doing_at m client) ≡ true
-  unfolding may_lock
-  lock-is client object h = (and_parts (is_taking (doing_at m client)) _
-      (and_parts (taking_at s m client (λ r. reaches s.topology m.device.world r object)) _ h).0).0
+  lock-is client object h = (lock_guards s m client object h).reaching.taking
 
   lock-older : (client object holder : ℕ) → may_lock s m client object ≡ true → holder_at m object ≡ Some holder
       → nat_lt (ticket_of (doing_at m holder)) (ticket_of (doing_at m client)) ≡ true
-  unfolding may_lock
-  lock-older client object holder h held = sym (ap (is_free_or_older m (ticket_of (doing_at m client))) held) ∙
-      (and_parts (taking_at s m client (λ r. reaches s.topology m.device.world r object)) _ h).1
+  lock-older client object holder h held =
+      sym (ap (is_free_or_older m (ticket_of (doing_at m client))) held) ∙ (lock_guards s m client object h).free
 
   ticket-client : (client : ℕ) → has_context (doing_at m client) ≡ true → IsIn client (client_numbers s)
   ticket-client client t = let q = C.facts.locks.atomic client t in with_request s m client q.request q.at
@@ -165,10 +154,6 @@ module _ (s : Script) (m : Machine) (n : ℕ) (C : Counted s n m) where
           let high = w.1 in
           done-one s m.contexts.places client (record { command = (place_at m client).command + 1; doing = doing.Idle })
           (let a = r.0 in let b = r.1 in omega (arith, a, b)) w.0 (omega (arith, high))
-
-  claim-low : (k : ℕ) → may_claim s.topology m k ≡ true → k < length m.device.commits
-  unfolding may_claim
-  claim-low k h = ltb-true k (length m.device.commits) (and_parts (nat_lt k (length m.device.commits)) _ h).0
 
   carries_falls : Carries s m (λ step m2. is_moving m step ≡ true → Falls s m step m2)
   carries_falls = record {
@@ -225,7 +210,7 @@ module _ (s : Script) (m : Machine) (n : ℕ) (C : Counted s n m) where
       read_one = λ client c e is_wait idle event events some mv. Answers (idle_done client c e idle) (inl refl);
     };
     tails = record {
-      claimed = λ k h mv. Tails k (claim-low k h) refl refl refl refl;
+      claimed = λ k h mv. Tails k (claim_guards s.topology m k h).within refl refl refl refl;
       written = λ k kind index found mv. Tails k (C.facts.holds.tail.marks.claimed k found.claimed) refl refl refl refl;
       waits = λ k kind index written found mv. Tails k
           (flush_within (flushed_holds s m C.facts.holds k (object_id kind index) written found).tail k (object_id kind index)

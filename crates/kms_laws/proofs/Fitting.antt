@@ -2,7 +2,7 @@
 use Rattle.std.proofs.Common.{◌≡◌, ℕ, suc, ◌+◌, ◌≤◌, List, [], ◌∷◌, length, Bool, true, false, Option, Some, None, refl, sym, ap, ◌∙◌}
 use Rattle.std.proofs.Common.{subst, arith, ⊎_elim}
 use Rattle.std.specs.List.{AllByRecursion}
-use Rattle.std.proofs.lemmas.Bool.{and_parts, cases_eq, false≢true}
+use Rattle.std.proofs.lemmas.Bool.{cases_eq, false≢true}
 use Rattle.std.proofs.lemmas.List.FromFn.{length-map-range_with_len}
 use Rattle.kms_model.specs.declared.objects.Kind.TheVariants.{Crtc}
 use Rattle.kms_model.specs.declared.objects.Topology.{Topology}
@@ -28,13 +28,13 @@ use Rattle.kms_model.specs.declared.replies.Reply.TheVariants as reply
 use Rattle.kms_model.specs.Machine.Effects.{answers, backed_off, begun, counts_vblank, decided, goes_on, refusal_reply, signals}
 use Rattle.kms_model.specs.Machine.Registers.{read}
 use Rattle.kms_model.specs.Machine.State.{Machine, command_at, count_at, doing_at, entry_at, place_at}
-use Rattle.kms_model.specs.Machine.Steps.{contended, is_atomic, is_idle, is_making, is_taking, may_lock, must_back_off, returning_of}
-use Rattle.kms_model.specs.Machine.Steps.{taking_at, ticket_of}
+use Rattle.kms_model.specs.Machine.Steps.{contended, is_atomic, is_idle, is_making, is_taking, must_back_off, returning_of}
+use Rattle.kms_model.specs.Machine.Steps.{ticket_of}
 use Rattle.kms_model.specs.Request.Apply.{after}
-use Rattle.kms_model.specs.Request.Reach.{reaches}
 use Rattle.kms_model.specs.Request.Sets.{obj_id}
 use Rattle.kms_model.specs.Request.Touched.{out_fence_label}
 use Rattle.kms_model.specs.Request.Verdict.{verdict}
+use Rattle.kms_model.proofs.Guards.{lock_guards}
 use Rattle.kms_laws.proofs.Basics.{read_other, read_same}
 use Rattle.kms_laws.proofs.EachStep.{Carries, by_bool, by_fence, by_latch, by_two, latched_as, made_as, swapped_as}
 use Rattle.kms_laws.proofs.Sizes.{IsThere, PlacesStand, answered, begun_at, busy, command-there, draws, ended_at, ends, place_of, stays}
@@ -207,11 +207,6 @@ module _ (s : Script) (m : Machine) (n : ℕ) (few : s.topology.crtcs ≤ 4) (S 
   goes_next client c e b a = goes client c e b a (record { command = (place_at m client).command + 1; doing = doing.Idle }) (omega arith)
       (omega arith) (omega arith)
 
-  lock-taking : (client object : ℕ) → may_lock s m client object ≡ true → is_taking (doing_at m client) ≡ true
-  unfolding may_lock
-  lock-taking client object h = (and_parts (is_taking (doing_at m client)) _
-      (and_parts (taking_at s m client (λ r. reaches s.topology m.device.world r object)) _ h).0).0
-
   begin_case : (client : ℕ) (c : Command) → command_at s m client ≡ Some c → is_idle (doing_at m client) ≡ true
       → HasSizes s (suc n) (begun m client)
   begin_case client c e idle =
@@ -322,8 +317,8 @@ module _ (s : Script) (m : Machine) (n : ℕ) (few : s.topology.crtcs ≤ 4) (S 
       meets = λ client kind index holder is_there lock held.
           record {
             places_stand = keeps_on client (doing.MustBackOff (record { 0 = ticket_of (doing_at m client) })
-                (obj_id (object_id kind index))) (taking-busy (doing_at m client) (lock-taking client (object_id kind index) lock))
-                (refl, refl);
+                (obj_id (object_id kind index)))
+                (taking-busy (doing_at m client) (lock_guards s m client (object_id kind index) lock).reaching.taking) (refl, refl);
             counts_few = counts_now;
             latches_few = latches_now;
           };

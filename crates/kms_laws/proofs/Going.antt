@@ -12,12 +12,13 @@ use Rattle.kms_model.specs.Machine.Effects.{answers, counts_vblank, flushes, goe
 use Rattle.kms_model.specs.Machine.Histories.{legal}
 use Rattle.kms_model.specs.Machine.Registers.{read}
 use Rattle.kms_model.specs.Machine.State.{DeviceState, Machine, count_at, go_at}
+use Rattle.kms_model.proofs.Guards.{IsFlush}
 use Rattle.kms_model.proofs.Items.{IsIn}
 use Rattle.kms_laws.proofs.Basics.{both_bools, pair_cases, pair_now, read_other, read_same}
 use Rattle.kms_laws.proofs.EachStep.{Carries, by_bool, by_fence, by_latch, by_two, each_step, latched_as, locks_leave, made_as, swapped_as}
 use Rattle.kms_laws.proofs.Latching.{latched_before}
 use Rattle.kms_laws.proofs.Objects.{crtc_index}
-use Rattle.kms_laws.proofs.Steps.{Holds, IsFlush, flushed_at, flushed_holds, fresh-unlatched}
+use Rattle.kms_laws.proofs.Steps.{Holds, flushed_at, flushed_holds, fresh-unlatched}
 use Rattle.kms_laws.proofs.Tails.{latch_more, latch_now}
 use Rattle.kms_laws.proofs.Traversal.{TailOf, latch_of}
 

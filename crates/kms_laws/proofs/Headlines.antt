@@ -3,7 +3,7 @@ use Rattle.std.proofs.Common.{◌≡◌, ℕ, zero, suc, ◌+◌, ◌<◌, ◌�
 use Rattle.std.proofs.Common.{◌∙◌, subst, arith, inl, inr, ⊎_elim}
 use Rattle.std.specs.Prelude.{if◌then◌else◌, filter, reverse}
 use Rattle.std.specs.List.{All, AllByRecursion, list_all, range_with_len}
-use Rattle.std.proofs.lemmas.Bool.{and_parts, cases_Bool, cases_lt, eq-eqb, eqb-true, ne_eqb, false_from_ne_true}
+use Rattle.std.proofs.lemmas.Bool.{cases_Bool, cases_lt, eq-eqb, eqb-true, ne_eqb, false_from_ne_true}
 use Rattle.std.proofs.lemmas.List.{map-append, reverse-append}
 use Rattle.std.proofs.lemmas.List.Elements.{All-append, filter-append}
 use Rattle.kms_model.specs.declared.objects.Kind.TheVariants.{Crtc}
@@ -14,10 +14,11 @@ use Rattle.kms_model.specs.declared.scripts.Script.{Script}
 use Rattle.kms_model.specs.Device.Objects.{ids_of, object_id}
 use Rattle.kms_model.specs.Device.Serial.{show}
 use Rattle.kms_model.specs.Headline.{CommitPicture, Headline, IsPrefixOf, StandsAtPlace, history_journal, latched_pictures, shown_pictures}
-use Rattle.kms_model.specs.Machine.Commits.{commit_names, has_number, is_cleaned}
-use Rattle.kms_model.specs.Machine.Histories.{at, client_numbers, commit_numbers, is_at_end, is_drained, is_history}
+use Rattle.kms_model.specs.Machine.Commits.{commit_names, is_cleaned}
+use Rattle.kms_model.specs.Machine.Histories.{at, commit_numbers, is_history}
 use Rattle.kms_model.specs.Machine.State.{Commit, Machine}
 use Rattle.kms_model.specs.Device.World.{start}
+use Rattle.kms_model.proofs.Guards.{drained_guards}
 use Rattle.kms_model.proofs.SoundStart.{start_is_lawful}
 use Rattle.kms_model.proofs.Items.{IsIn, ids-has, list_all-at}
 use Rattle.kms_laws.specs.Laws.{HasSerialWorld}
@@ -105,27 +106,22 @@ range-in from (suc n) k l m =
     (λ ge. inl (omega arith))
     (cases_lt from k)
 
-all_clean : (m : Machine) → list_all (is_cleaned m.device) (commit_numbers m) ≡ true → (k : ℕ) → k < length m.device.commits
-    → has_number m.device.marks.cleaned k ≡ true
-all_clean m clean k l =
-    list_all-at (is_cleaned m.device) (commit_numbers m) k clean (range-in 0 (length m.device.commits) k (omega arith) (omega arith))
+abbrev AllClean : Machine → Type 0
+AllClean m = (k : ℕ) → IsIn k (commit_numbers m) → is_cleaned m.device k ≡ true
 
-drained_clean : (s : Script) (m : Machine) → is_drained s m ≡ true → list_all (is_cleaned m.device) (commit_numbers m) ≡ true
-unfolding is_drained
-drained_clean s m drained = (and_parts (list_all (is_at_end s m) (client_numbers s)) _ drained).1
-
-all_of_them : (s : Script) (m : Machine) → Holds s m → list_all (is_cleaned m.device) (commit_numbers m) ≡ true → (crtc : ℕ) → crtc
-    < s.topology.crtcs
+all_of_them : (s : Script) (m : Machine) → Holds s m → AllClean m → (crtc : ℕ) → crtc < s.topology.crtcs
     → map pair_of_latch (filter (λ l. l.crtc == crtc) (reverse m.records.latches))
     ≡ map pair_of (show s (reverse m.records.journal) (object_id Crtc crtc))
 all_of_them s m H clean crtc l =
     let c = object_id Crtc crtc in
     let i : IsIn c (ids_of s.topology Crtc) = ids-has s.topology Crtc crtc l in
     let e = H.tail.shows c in
+    let all = length m.device.commits in
     latched-at m.records.latches crtc
-    ∙ ap reverse (e.says ∙ sym (shown_same s.topology m.device.commits c e.at (length m.device.commits) e.within
+    ∙ ap reverse (e.says ∙ sym (shown_same s.topology m.device.commits c e.at all e.within
     (λ j l2 m2. false_from_ne_true (commit_names s.topology m.device.commits j c) (λ named.
-    absurd (let lt = e.above j (H.tail.marks.cleaned j c (all_clean m clean j m2) i named) in omega arith)))))
+    absurd (let clean_j = clean j (range-in 0 all j (omega arith) (omega (arith, m2))) in
+    let lt = e.above j (H.tail.marks.cleaned j c clean_j i named) in omega arith)))))
     ∙ sym (H.present.is_shown c i)
 
 all_reversed : {A : Type 0} (P : A → Type 0) (xs : List A) → AllByRecursion P xs → All P (reverse xs)
@@ -148,9 +144,10 @@ headline s h plain is =
     let world = serial_world s h plain is in
     record {
       in_order = λ crtc l. in_order s (at s h) H crtc l;
-      all_of_them = λ drained crtc l. all_of_them s (at s h) H (drained_clean s (at s h) drained) crtc l;
+      all_of_them = λ drained crtc l. all_of_them s (at s h) H (drained_guards s (at s h) drained).cleaned crtc l;
       frames_in_order = λ crtc l. let front = in_order s (at s h) H crtc l in (_, frames-follow s h starts world crtc front.0 front.1);
-      all_frames = λ drained crtc l. frames-same s h starts world crtc (all_of_them s (at s h) H (drained_clean s (at s h) drained) crtc l);
+      all_frames = λ drained crtc l. frames-same s h starts world crtc
+          (all_of_them s (at s h) H (drained_guards s (at s h) drained).cleaned crtc l);
       verdicts = all_reversed (StandsAtPlace s (history_journal s h)) (at s h).records.replies H.replies;
     }
 
@@ -158,4 +155,5 @@ pub all_shown : (s : Script) (h : List Step) → IsPlainScript s → is_history 
     → list_all (is_cleaned (at s h).device) (commit_numbers (at s h)) ≡ true
     → (crtc : ℕ) → crtc < s.topology.crtcs → latched_pictures s h crtc ≡ shown_pictures s (history_journal s h) crtc
 unfolding pair_of_latch
-all_shown s h plain is clean crtc l = all_of_them s (at s h) (history_kept s h plain is) clean crtc l
+all_shown s h plain is clean crtc l = all_of_them s (at s h) (history_kept s h plain is)
+    (λ k is. list_all-at (is_cleaned (at s h).device) (commit_numbers (at s h)) k clean is) crtc l

@@ -29,6 +29,7 @@ use Rattle.kms_model.specs.Request.Apply.{after}
 use Rattle.kms_model.specs.Request.Checks.{is_active}
 use Rattle.kms_model.specs.Request.Named.{names}
 use Rattle.kms_model.specs.Request.Touched.{is_affected, sets, touches, touches_of_kind}
+use Rattle.kms_model.proofs.Guards.{IsSwapping, swap_guards}
 use Rattle.kms_model.proofs.AppliedValues.{value-apply_unset}
 use Rattle.kms_model.proofs.Items.{IsIn, ids-has, list_all-at}
 use Rattle.kms_model.proofs.MaskLemmas.{same_masks}
@@ -36,16 +37,15 @@ use Rattle.kms_model.proofs.SeenLemmas.{gamma-seen, mode-seen}
 use Rattle.kms_model.proofs.SoundKept.{accepted-parts, sound-apply}
 use Rattle.kms_model.proofs.TouchedLemmas.{HasFewObjects, IsRequestAt, crtc_at-unset, few_objects, gamma_at-unset, mode_at-unset}
 use Rattle.kms_model.proofs.TouchedLemmas.{routed-unnamed}
-use Rattle.kms_model.proofs.Facts.{implied}
+use Rattle.kms_model.proofs.Facts.{implied, value-is}
 use Rattle.kms_laws.proofs.Basics.{in_either}
-use Rattle.kms_laws.proofs.EachStep.{Carries, IsSwap, by_bool, by_fence, by_two, each_step, locks_leave, made_as, swap-found, swapped_as}
-use Rattle.kms_laws.proofs.EachStep.{tails_leave}
+use Rattle.kms_laws.proofs.EachStep.{Carries, by_bool, by_fence, by_two, each_step, locks_leave, made_as, swapped_as, tails_leave}
 use Rattle.kms_laws.proofs.Executed.{IsLike, execute_follows, follows-out_fences, plane_like}
 use Rattle.kms_laws.proofs.LockSteps.{HasLocks}
 use Rattle.kms_laws.proofs.NeverStuck.{history_facts}
 use Rattle.kms_laws.proofs.Objects.{conn_kind, crtc_kind, plane_kind}
 use Rattle.kms_laws.proofs.Requests.{plane_frame}
-use Rattle.kms_laws.proofs.Steps.{Holds, IsPlainScript, not_atomic, value-is}
+use Rattle.kms_laws.proofs.Steps.{Holds, IsPlainScript, not_atomic}
 
 -- an object with a lock that is of a kind is one of that kind
 in_kind : (t : Topology) (k : Kind) (o : ℕ) → HasFewObjects t → IsIn o (lockable t) → kind_of o ≡ k → IsIn o (ids_of t k)
@@ -156,7 +156,7 @@ module _ (s : Script) (m : Machine) (plain : IsPlainScript s) (H : Holds s m) (L
       by_test false e = e
       by_test true e = absurd (others (sym (value-is client (holder_at m o) (implied _ _ each e)) ∙ value-is holder (holder_at m o) held))
 
-  swap_same : (client : ℕ) (r : Request) → Some client ≢ Some holder → IsSwap s.topology m client r
+  swap_same : (client : ℕ) (r : Request) → Some client ≢ Some holder → IsSwapping s.topology m client r
       → HasSameState s.topology m.device.world (committed s.topology m.device.world client r).world o
   swap_same client r others found =
       let w1 : World = record m.device.world { values = after m.device.world r; commits = m.device.world.commits + 1 } in
@@ -175,7 +175,7 @@ module _ (s : Script) (m : Machine) (plain : IsPlainScript s) (H : Holds s m) (L
       refuses = λ client r e taking may others. as_it_was;
       tests = λ client r e taking may others. as_it_was;
       swaps = λ client r e taking may b w eb ew others.
-          let now = swap_same client r others (swap-found s.topology m client r may)
+          let now = swap_same client r others (swap_guards s.topology m client r may)
           in by_two (λ b w. Of (swapped_as s.topology b w m client r)) now now now now b w;
       makes = λ client c e making idle b eb others.
           let now = make_same client c e making in by_bool (λ b. Of (made_as b m client (execute s.topology m.device.world client c))) now

@@ -2,7 +2,7 @@
 use Rattle.std.proofs.Common.{◌≡◌, ℕ, suc, ◌+◌, ◌<◌, ◌≤◌, List, ◌∷◌, length, Bool, true, false, Option, Some, None, refl, sym, ap, ◌∙◌}
 use Rattle.std.proofs.Common.{subst, arith, ⊎_elim}
 use Rattle.std.specs.Prelude.{is_some}
-use Rattle.std.proofs.lemmas.Bool.{and_parts, cases_eq, false≢true, ltb-true}
+use Rattle.std.proofs.lemmas.Bool.{cases_eq, false≢true, ltb-true}
 use Rattle.kms_model.specs.declared.objects.Kind.{Kind}
 use Rattle.kms_model.specs.declared.objects.Kind.TheVariants.{Crtc, Plane, Conn, Enc}
 use Rattle.kms_model.specs.declared.objects.Topology.{Topology}
@@ -22,9 +22,9 @@ use Rattle.kms_model.specs.Machine.Histories.{legal}
 use Rattle.kms_model.specs.Machine.Registers.{read}
 use Rattle.kms_model.specs.Machine.State.{Contexts, Machine, command_at, doing_at, first_machine, place_at, request_in}
 use Rattle.kms_model.specs.Machine.Steps.{contended, is_atomic, is_idle, is_lockable, is_taking, may_lock, must_back_off, returning_of}
-use Rattle.kms_model.specs.Machine.Steps.{taking_at, ticket_of}
-use Rattle.kms_model.specs.Request.Reach.{reaches}
+use Rattle.kms_model.specs.Machine.Steps.{ticket_of}
 use Rattle.kms_model.specs.Request.Sets.{obj_id}
+use Rattle.kms_model.proofs.Guards.{lock_guards}
 use Rattle.kms_model.proofs.Items.{IsIn, ids-has}
 use Rattle.kms_laws.specs.Laws.{has_context}
 use Rattle.kms_laws.proofs.Basics.{both_bools, in_left, in_right, read_other, read_same}
@@ -239,10 +239,7 @@ module _ (s : Script) (m : Machine) (L : HasLocks s m) where
 
   pub lock-taking : (client object : ℕ) → may_lock s m client object ≡ true → (may_hold (doing_at m client) ≡ true)
       × (has_context (doing_at m client) ≡ true)
-  unfolding may_lock
-  lock-taking client object h = taking-holds (doing_at m client)
-      (and_parts (is_taking (doing_at m client)) _
-      (and_parts (taking_at s m client (λ r. reaches s.topology m.device.world r object)) _ h).0).0
+  lock-taking client object h = taking-holds (doing_at m client) (lock_guards s m client object h).reaching.taking
 
   meet_locks : (client object : ℕ) → IsIn object (lockable s.topology) → may_lock s m client object ≡ true
       → HasLocks s (now_doing m client (doing.MustBackOff (record { 0 = ticket_of (doing_at m client) }) (obj_id object)))

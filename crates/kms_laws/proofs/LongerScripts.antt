@@ -1,8 +1,8 @@
 -- Each history of a script that was not ended is one of each longer script of the device, and leaves the same machine.
 use Rattle.std.proofs.Common.{◌≡◌, ℕ, zero, suc, List, [], ◌∷◌, ◌++◌, Bool, true, false, Option, Some, None, inl, inr, refl, sym, ap, ◌∙◌}
 use Rattle.std.proofs.Common.{subst, arith}
-use Rattle.std.specs.Prelude.{not, slice_get}
-use Rattle.std.proofs.lemmas.Bool.{and_from, and_parts, false≢true}
+use Rattle.std.specs.Prelude.{slice_get}
+use Rattle.std.proofs.lemmas.Bool.{and_from, false≢true}
 use Rattle.std.proofs.lemmas.Option.{slice_get_within}
 use Rattle.kms_model.specs.declared.objects.Topology.{Topology}
 use Rattle.kms_model.specs.declared.replies.Step.{Step}
@@ -15,47 +15,25 @@ use Rattle.kms_model.specs.declared.scripts.Script.{Script}
 use Rattle.kms_model.specs.Device.Serial.{Entry, command_of, from_one}
 use Rattle.kms_model.specs.Machine.Effects.{made_thing, next, refused, signalled_by, swapped_state}
 use Rattle.kms_model.specs.Machine.Histories.{are_legal, at, legal, run_steps}
-use Rattle.kms_model.specs.Machine.State.{Machine, command_at, doing_at, entry_at, first_machine, request_at, request_in}
-use Rattle.kms_model.specs.Machine.Steps.{idle_at, is_atomic, is_idle, is_lockable, is_making, is_signal, is_taking, is_wait, may, may_lock}
-use Rattle.kms_model.specs.Machine.Steps.{may_refuse, may_swap, may_test, returning_of, taking_at}
+use Rattle.kms_model.specs.Machine.State.{Machine, command_at, entry_at, first_machine, request_at, request_in}
+use Rattle.kms_model.specs.Machine.Steps.{idle_at, is_atomic, is_making, is_signal, is_wait, may, may_lock}
+use Rattle.kms_model.specs.Machine.Steps.{may_refuse, may_swap, may_test, taking_at}
 use Rattle.kms_model.specs.Script.Longer.{at_last}
 use Rattle.kms_model.specs.Script.Words.{◌>>=◌}
 use Rattle.kms_laws.specs.Longer.{AddedIsLonger, HistoriesStay, StaysHistory}
+use Rattle.kms_model.proofs.Guards.{idle_from, idle_guards, legal-going, legal_parts, may_guards, may_legal, taking_from, taking_guards}
 use Rattle.kms_laws.proofs.Quiet.{legal-may}
-use Rattle.kms_laws.proofs.Stalled.{legal-going}
-use Rattle.kms_laws.proofs.Steps.{idle-none, idle-some, request-is, taking-none, taking-some}
+use Rattle.kms_laws.proofs.Steps.{request-is}
 
 -- A script over another device.
 abbrev over : Topology → Script → Script
 over t s = record s { topology = t }
 
--- what is legal where a history was not ended
-legal_from : (s : Script) (m : Machine) (step : Step) → m.stalled ≡ false → may s m step ≡ true → legal s m step ≡ true
-unfolding legal may
-legal_from s m Stall going h = absurd (false≢true h)
-legal_from s m (Begin client) going h = and_from (not m.stalled) _ (ap not going) h
-legal_from s m (BackOff client) going h = and_from (not m.stalled) _ (ap not going) h
-legal_from s m (Relock client) going h = and_from (not m.stalled) _ (ap not going) h
-legal_from s m (Refuse client) going h = and_from (not m.stalled) _ (ap not going) h
-legal_from s m (Test client) going h = and_from (not m.stalled) _ (ap not going) h
-legal_from s m (Swap client) going h = and_from (not m.stalled) _ (ap not going) h
-legal_from s m (Make client) going h = and_from (not m.stalled) _ (ap not going) h
-legal_from s m (Signal client) going h = and_from (not m.stalled) _ (ap not going) h
-legal_from s m (Claim k) going h = and_from (not m.stalled) _ (ap not going) h
-legal_from s m (Write k kind index) going h = and_from (not m.stalled) _ (ap not going) h
-legal_from s m (Flush k kind index) going h = and_from (not m.stalled) _ (ap not going) h
-legal_from s m (HwDone k) going h = and_from (not m.stalled) _ (ap not going) h
-legal_from s m (Vblank kind index) going h = and_from (not m.stalled) _ (ap not going) h
-legal_from s m (Cleanup k) going h = and_from (not m.stalled) _ (ap not going) h
-legal_from s m (Read client) going h = and_from (not m.stalled) _ (ap not going) h
-legal_from s m (Return client) going h = and_from (not m.stalled) _ (ap not going) h
-legal_from s m (Lock client kind index) going h = and_from (not m.stalled) _ (ap not going) h
-
 -- a history that is not ended was not ended before
 was_going : (s : Script) (m : Machine) (h : List Step) → are_legal s m h ≡ true → (run_steps s m h).stalled ≡ false → m.stalled ≡ false
 unfolding run_steps are_legal
 was_going s m [] is going = going
-was_going s m (step ∷ h) is going = legal-going s m step (and_parts (legal s m step) _ is).0
+was_going s m (step ∷ h) is going = legal-going s m step (legal_parts s m step h is).first
 
 not_ended : (s : Script) (m : Machine) (step : Step) → (next s m step).stalled ≡ false → step ≡ Stall → ⊥
 unfolding next
@@ -72,50 +50,36 @@ module _ (s longer : Script) (there : (e : Entry) (c : Command) → command_of s
 
   idle_there : (m : Machine) (client : ℕ) (test : Command → Bool) → idle_at s m client test ≡ true
       → IsThere (idle_at more m client test) (command_at s m client) (command_at more m client)
-  idle_there m client test h = go (command_at s m client) refl
-    where
-      go : (o : Option Command) → command_at s m client ≡ o → IsThere (idle_at more m client test) (command_at s m client)
-          (command_at more m client)
-      go None e = absurd (idle-none s m client test e h)
-      go (Some c) e =
-          let same : command_at more m client ≡ Some c = there (entry_at m client) c e in
-          record {
-            passes = rw same (and_from (is_idle (doing_at m client)) (test c) (and_parts (is_idle (doing_at m client)) _ h).0
-                (idle-some s m client test c e h));
-            same = same ∙ sym e;
-          }
+  idle_there m client test h =
+      let g = idle_guards s m client test h in
+      let stands : command_at more m client ≡ Some g.command = there (entry_at m client) g.command g.stands in
+      record {
+        passes = idle_from more m client test (record { idle = g.idle; command = g.command; stands = stands; passes = g.passes });
+        same = stands ∙ sym g.stands;
+      }
 
   taking_there : (m : Machine) (client : ℕ) (test : Request → Bool) → taking_at s m client test ≡ true
       → IsThere (taking_at more m client test) (request_at s m client) (request_at more m client)
-  taking_there m client test h = go (request_at s m client) refl
-    where
-      go : (o : Option Request) → request_at s m client ≡ o → IsThere (taking_at more m client test) (request_at s m client)
-          (request_at more m client)
-      go None e = absurd (taking-none s m client test e h)
-      go (Some r) e =
-          let same : request_at more m client ≡ Some r = ap request_in
-          (there (entry_at m client) (command.Atomic r) (request-is (command_at s m client) r e)) in
-          record {
-            passes = rw same (and_from (is_taking (doing_at m client)) (test r) (and_parts (is_taking (doing_at m client)) _ h).0
-                (taking-some s m client test r e h));
-            same = same ∙ sym e;
-          }
+  taking_there m client test h =
+      let g = taking_guards s m client test h in
+      let stands : request_at more m client ≡ Some g.request = ap request_in
+      (there (entry_at m client) (command.Atomic g.request) (request-is (command_at s m client) g.request g.stands)) in
+      record {
+        passes = taking_from more m client test (record { taking = g.taking; request = g.request; stands = stands; passes = g.passes });
+        same = stands ∙ sym g.stands;
+      }
 
   return_there : (m : Machine) (client : ℕ) → may s m (Return client) ≡ true → may more m (Return client) ≡ true
   unfolding may
-  return_there m client h = go (returning_of (doing_at m client)) refl
-    where
-      go : (o : Option ℕ) → returning_of (doing_at m client) ≡ o → may more m (Return client) ≡ true
-      go None e = let g = rw e at h in absurd (false≢true g)
-      go (Some k) e = let g = rw e at h in rw e g
+  return_there m client h = let g = may_guards s m (Return client) h in rw g.returns g.cleaned
 
   may_there : (m : Machine) (step : Step) → may s m step ≡ true → may more m step ≡ true
   unfolding may may_lock
   may_there m (Begin client) h = (idle_there m client is_atomic h).passes
   may_there m (Lock client kind index) h =
-      let both = and_parts (is_lockable s.topology kind index) _ h in
-      let lock = and_parts (taking_at s m client _) _ both.1 in
-      and_from _ _ both.0 (and_from _ _ (taking_there m client _ lock.0).passes lock.1)
+      let g = may_guards s m (Lock client kind index) h in
+      let reaching = taking_there m client _ (taking_from s m client _ g.may_lock.reaching) in
+      and_from _ _ g.lockable (and_from _ _ reaching.passes g.may_lock.free)
   may_there m (BackOff client) h = h
   may_there m (Relock client) h = h
   may_there m (Refuse client) h = (taking_there m client (may_refuse s.topology m client) h).passes
@@ -129,8 +93,9 @@ module _ (s longer : Script) (there : (e : Entry) (c : Command) → command_of s
   may_there m (HwDone k) h = h
   may_there m (Vblank kind index) h = h
   may_there m (Cleanup k) h = h
-  may_there m (Read client) h = let both = and_parts (idle_at s m client is_wait) _ h in and_from _ _
-      (idle_there m client is_wait both.0).passes both.1
+  may_there m (Read client) h =
+      let g = may_guards s m (Read client) h in
+      and_from _ _ (idle_there m client is_wait (idle_from s m client is_wait g.waits)).passes g.tells
   may_there m (Return client) h = return_there m client h
   may_there m Stall h = absurd (false≢true h)
 
@@ -166,12 +131,12 @@ module _ (s longer : Script) (there : (e : Entry) (c : Command) → command_of s
   unfolding run_steps are_legal
   run_there m [] is going = (refl, refl)
   run_there m (step ∷ h) is going =
-      let both = and_parts (legal s m step) _ is in
-      let runs = was_going s (next s m step) h both.1 going in
-      let may = may_of m step both.0 runs in
+      let all = legal_parts s m step h is in
+      let runs = was_going s (next s m step) h all.rest going in
+      let may = may_of m step all.first runs in
       let same = next_there m step may in
-      let rest = run_there (next s m step) h both.1 going in (
-        and_from _ _ (legal_from more m step (legal-going s m step both.0) (may_there m step may))
+      let rest = run_there (next s m step) h all.rest going in (
+        and_from _ _ (may_legal more m step (legal-going s m step all.first) (may_there m step may))
             (ap (λ n. are_legal more n h) same ∙ rest.0),
         ap (λ n. run_steps more n h) same ∙ rest.1,
       )

@@ -17,6 +17,7 @@ use Rattle.kms_model.specs.Machine.State.{Machine, first_machine}
 use Rattle.kms_model.specs.Machine.Steps.{first_pending, holds_touched, is_pending, is_ready, lacks_space, may, may_claim, may_lock}
 use Rattle.kms_model.specs.Machine.Steps.{may_refuse, may_swap, may_test, next_flush, next_write}
 use Rattle.kms_model.specs.Promises.{WaitsForFence}
+use Rattle.kms_model.proofs.Guards.{legal-going, legal_guards}
 use Rattle.kms_model.proofs.Items.{list_all-from, list_any-has}
 use Rattle.kms_laws.specs.Laws.{TellsFence, can_move}
 use Rattle.kms_laws.proofs.Basics.{both_bools}
@@ -27,7 +28,7 @@ use Rattle.kms_laws.proofs.Fences.{FencesStand}
 use Rattle.kms_laws.proofs.Framebuffers.{range-below}
 use Rattle.kms_laws.proofs.Going.{Going, step_go}
 use Rattle.kms_laws.proofs.LockSteps.{HasLocks, first_locks, step_locks}
-use Rattle.kms_laws.proofs.Stalled.{Ending, ending, legal-going}
+use Rattle.kms_laws.proofs.Stalled.{Ending, ending}
 use Rattle.kms_laws.proofs.Steps.{Holds, IsPlainScript, along, first_kept, step_kept}
 use Rattle.kms_laws.proofs.TailProgress.{CanMove, first_going, goes_or_waits, oldest}
 use Rattle.kms_laws.proofs.Traversal.{step_keeps}
@@ -152,10 +153,6 @@ pub record Along (s : Script) (m : Machine) : Type 0 where
   pub facts : Facts s m
   pub end : (m.stalled ≡ false) ⊎ WasEnded s m
 
-stall-dead : (s : Script) (m : Machine) → legal s m Stall ≡ true → is_dead s m ≡ true
-unfolding legal
-stall-dead s m h = (and_parts (not m.stalled) _ h).1
-
 stall-next : (s : Script) (m : Machine) → next s m Stall ≡ record m { stalled = true }
 unfolding next
 stall-next s m = refl
@@ -167,7 +164,7 @@ step_along s m step plain A h = record { facts = step_facts s m step plain A.fac
     at_end l = inr (record {
       before = m;
       same = stall-next s m;
-      stuck = stuck-from s m A.facts (legal-going s m Stall l) (stall-dead s m l);
+      stuck = stuck-from s m A.facts (legal-going s m Stall l) (legal_guards s m Stall l);
     })
 
     go : Ending m step (next s m step) → ((next s m step).stalled ≡ false) ⊎ WasEnded s (next s m step)

@@ -13,11 +13,12 @@ use Rattle.kms_model.specs.Machine.Waits.WaitsAlong.{Direct, Through}
 use Rattle.kms_model.specs.Request.Reach.{reaches}
 use Rattle.kms_model.specs.Machine.Effects.{next}
 use Rattle.kms_model.specs.Promises.{TestChangesNothing}
+use Rattle.kms_model.proofs.Facts.{value-is}
 use Rattle.kms_laws.proofs.Basics.{both_bools}
 use Rattle.kms_laws.proofs.LockSteps.{HasLocks}
 use Rattle.kms_laws.proofs.Contexts.{held-ticket, may_hold}
 use Rattle.kms_laws.proofs.NeverStuck.{history_facts}
-use Rattle.kms_laws.proofs.Steps.{IsPlainScript, value-is}
+use Rattle.kms_laws.proofs.Steps.{IsPlainScript}
 
 module _ (s : Script) (m : Machine) (L : HasLocks s m) where
   holder-holds : (y object : ℕ) → holds m y object ≡ true → may_hold (doing_at m y) ≡ true

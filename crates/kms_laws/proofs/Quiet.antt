@@ -5,12 +5,12 @@ use Rattle.std.proofs.Common.{◌∙◌, subst, arith, inl, inr, ◌⊎◌, ⊎_
 use Rattle.std.specs.Prelude.{if◌then◌else◌, filter, find}
 use Rattle.std.specs.List.{flat_map}
 use Rattle.std.specs.Option.{option_and_then, option_map}
-use Rattle.std.proofs.lemmas.Bool.{and_from, and_left, and_parts, and_right, cases_Bool, cond-false, cond-true, false_from_ne_true}
+use Rattle.std.proofs.lemmas.Bool.{and_left, and_right, cases_Bool, cond-false, cond-true, false_from_ne_true}
 use Rattle.std.proofs.lemmas.Bool.{false≢true}
 use Rattle.kms_model.specs.declared.objects.Kind.TheVariants.{Crtc, Plane, Conn}
 use Rattle.kms_model.specs.declared.objects.Topology.{Topology}
 use Rattle.kms_model.specs.declared.replies.Step.{Step}
-use Rattle.kms_model.specs.declared.replies.Step.TheVariants.{Begin, Lock, BackOff, Relock, Refuse, Test, Swap, Make, Signal, Claim, Write}
+use Rattle.kms_model.specs.declared.replies.Step.TheVariants.{Begin, Lock, BackOff, Relock, Refuse, Test, Swap, Make, Signal, Write}
 use Rattle.kms_model.specs.declared.replies.Step.TheVariants.{Flush, HwDone, Vblank, Cleanup, Read, Return, Stall}
 use Rattle.kms_model.specs.declared.runs.Doing.{Doing}
 use Rattle.kms_model.specs.declared.runs.Doing.TheVariants as doing
@@ -28,12 +28,13 @@ use Rattle.kms_model.specs.Machine.Steps.{may_refuse, may_swap, may_test, must_b
 use Rattle.kms_model.specs.Order.Turns.{client_step, first_missing, in_affected_group, in_named_group, in_set_group, lock_step, missing_of}
 use Rattle.kms_model.specs.Order.Turns.{next_lock, or_those, tail_step}
 use Rattle.kms_model.specs.Request.Reach.{reaches}
+use Rattle.kms_model.proofs.Guards.{IsAtEnd, end_guards, may_legal}
 use Rattle.kms_model.proofs.Items.{IsIn, ids-has, list_any-at, list_any-none, or_else-none, or_else-nones}
 use Rattle.kms_laws.specs.Laws.{can_move}
 use Rattle.kms_laws.proofs.Basics.{both_bools, in_either, in_left, in_right}
 use Rattle.kms_laws.proofs.ClientProgress.{locks, of_client}
 use Rattle.kms_laws.proofs.Framebuffers.{range-below}
-use Rattle.kms_laws.proofs.Steps.{IsLegal, idle-none, legal-cases, none-is, taking-none}
+use Rattle.kms_laws.proofs.Steps.{IsLegal, idle-none, legal-cases, taking-none}
 use Rattle.kms_laws.proofs.Steps.IsLegal.{Ends, May}
 use Rattle.kms_laws.proofs.TailProgress.{CanMove, of_commit}
 
@@ -294,11 +295,10 @@ module _ (s : Script) (m : Machine) where
   taking-fails client test e = false_from_ne_true (taking_at s m client test) (λ h. taking-none s m client test (ap request_in e) h)
 
   -- a client at its end has no step
-  pub ended-fails : (client : ℕ) → is_at_end s m client ≡ true → (step : Step) → IsIn step (steps_of_client s.topology client)
+  pub ended-fails : (client : ℕ) → IsAtEnd s m client → (step : Step) → IsIn step (steps_of_client s.topology client)
       → may s m step ≡ false
   unfolding may may_lock
-  ended-fails client h step is = by_step (and_parts (is_idle (doing_at m client)) _ h).0
-      (none-is (command_at s m client) (and_parts (is_idle (doing_at m client)) _ h).1) is
+  ended-fails client end step is = by_step end.idle end.ended is
     where
       returns_not : (o : Option ℕ) → returning_of (doing_at m client) ≡ o → o ≡ None → may s m (Return client) ≡ false
       returns_not None e f = rw e refl
@@ -352,29 +352,8 @@ module _ (s : Script) (m : Machine) where
             (or_else-none (find (may_lock s m client) (first_missing s.topology m client r)) _
             (mapped (next_lock s m client r) e)).second_none io
 
-    may-legal : (step : Step) → may s m step ≡ true → legal s m step ≡ true
-    unfolding may legal
-    may-legal (Begin client) h = and_from _ _ (ap not going) h
-    may-legal (Lock client kind index) h = and_from _ _ (ap not going) h
-    may-legal (BackOff client) h = and_from _ _ (ap not going) h
-    may-legal (Relock client) h = and_from _ _ (ap not going) h
-    may-legal (Refuse client) h = and_from _ _ (ap not going) h
-    may-legal (Test client) h = and_from _ _ (ap not going) h
-    may-legal (Swap client) h = and_from _ _ (ap not going) h
-    may-legal (Make client) h = and_from _ _ (ap not going) h
-    may-legal (Signal client) h = and_from _ _ (ap not going) h
-    may-legal (Claim k) h = and_from _ _ (ap not going) h
-    may-legal (Write k kind index) h = and_from _ _ (ap not going) h
-    may-legal (Flush k kind index) h = and_from _ _ (ap not going) h
-    may-legal (HwDone k) h = and_from _ _ (ap not going) h
-    may-legal (Vblank kind index) h = and_from _ _ (ap not going) h
-    may-legal (Cleanup k) h = and_from _ _ (ap not going) h
-    may-legal (Read client) h = and_from _ _ (ap not going) h
-    may-legal (Return client) h = and_from _ _ (ap not going) h
-    may-legal Stall h = absurd (false≢true h)
-
     not-may : (step : Step) → legal s m step ≡ false → may s m step ≡ false
-    not-may step h = false_from_ne_true (may s m step) (λ may_be. both_bools _ (may-legal step may_be) h)
+    not-may step h = false_from_ne_true (may s m step) (λ may_be. both_bools _ (may_legal s m step going may_be) h)
 
     -- a client that is not at its end
     running-fails : (client : ℕ) → client_step s m client ≡ None → legal s m (Return client) ≡ false → (step : Step)
@@ -420,7 +399,7 @@ module _ (s : Script) (m : Machine) where
     client-fails : (client : ℕ) → IsIn client (client_numbers s) → (step : Step) → IsIn step (steps_of_client s.topology client)
         → may s m step ≡ false
     client-fails client ic step is =
-        ⊎_elim (λ ends. ended-fails client ends step is)
+        ⊎_elim (λ ends. ended-fails client (end_guards s m client ends) step is)
         (λ running. running-fails client (Q.clients client ic running) (Q.returns client ic running) step is)
         (cases_Bool (is_at_end s m client))
 

@@ -2,7 +2,7 @@
 use Rattle.std.proofs.Common.{◌≡◌, ℕ, zero, suc, ◌+◌, ◌<◌, ◌≤◌, ◌^◌, List, [], ◌∷◌, length, Bool, true, false, refl, sym, ap, ◌∙◌, subst}
 use Rattle.std.proofs.Common.{arith, ⊎_elim}
 use Rattle.std.specs.Prelude.{reverse}
-use Rattle.std.proofs.lemmas.Bool.{and_parts, cases_Bool, cases_lt, cond-false, cond-true, eq-eqb}
+use Rattle.std.proofs.lemmas.Bool.{cases_Bool, cases_lt, cond-false, cond-true, eq-eqb}
 use Rattle.kms_model.specs.Firsts.{one_if}
 use Rattle.kms_model.specs.declared.replies.Step.{Step}
 use Rattle.kms_model.specs.declared.scripts.Script.{Script}
@@ -13,6 +13,7 @@ use Rattle.kms_model.specs.Order.Rounds.{is_still, round, rounds, run_of}
 use Rattle.kms_model.specs.Order.Turns.{Progress, does}
 use Rattle.kms_model.specs.Script.WellFormed.{IsWellFormed}
 use Rattle.kms_laws.specs.Ends.{is_moving, moves_in}
+use Rattle.kms_model.proofs.Guards.{legal_parts}
 use Rattle.kms_laws.proofs.Basics.{both_bools}
 use Rattle.kms_laws.proofs.Finite.{falls, falls-lower, idle-same, left, left-bound}
 use Rattle.kms_laws.proofs.Modes.{plain-from}
@@ -90,9 +91,9 @@ module _ (s : Script) (formed : IsWellFormed s) where
   unfolding moves_in are_legal
   moves-few [] n m C is = omega arith
   moves-few (step ∷ steps) n m C is =
-      let both = and_parts (legal s m step) _ is in
-      let a = step-left n m step C both.0 in
-      let b = moves-few steps (suc n) (next s m step) (step_counted s (plain-from s formed) n m step C both.0) both.1 in
+      let all = legal_parts s m step steps is in
+      let a = step-left n m step C all.first in
+      let b = moves-few steps (suc n) (next s m step) (step_counted s (plain-from s formed) n m step C all.first) all.rest in
       omega (arith, a, b)
 
   pub few-moves : (h : List Step) → is_history s h ≡ true → moves_in s (first_machine s.topology) h < 2 ^ 53

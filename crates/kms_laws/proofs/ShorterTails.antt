@@ -20,15 +20,16 @@ use Rattle.kms_model.specs.Machine.Effects.{answers, claims, counts_vblank, goes
 use Rattle.kms_model.specs.Machine.Histories.{at, is_history, legal}
 use Rattle.kms_model.specs.Machine.State.{Commit, Machine, Marks, count_at, go_at}
 use Rattle.kms_model.specs.Machine.Steps.{may_claim}
+use Rattle.kms_model.proofs.Guards.{IsFlush, IsWrite, claim_guards}
 use Rattle.kms_model.proofs.Items.{IsIn, filter-same}
 use Rattle.kms_model.proofs.TouchedLemmas.{HasFewObjects}
 use Rattle.kms_model.proofs.CommitFacts.{touches_old}
 use Rattle.kms_laws.specs.TailsLeft.{LeavesLess, commit_of_step, steps_left, tail_left, unflushed, unlatched, unwritten}
 use Rattle.kms_laws.proofs.Basics.{both_bools, number_more, number_now, pair_more, pair_now}
-use Rattle.kms_laws.proofs.EachStep.{Carries, IsWrite, by_bool, by_fence, by_latch, by_two, each_step, latched_as, made_as, swapped_as}
+use Rattle.kms_laws.proofs.EachStep.{Carries, by_bool, by_fence, by_latch, by_two, each_step, latched_as, made_as, swapped_as}
 use Rattle.kms_laws.proofs.Numbered.{names_old}
 use Rattle.kms_laws.proofs.Objects.{crtc_index}
-use Rattle.kms_laws.proofs.Steps.{Holds, IsFlush, IsPlainScript, flushed_at, history_kept}
+use Rattle.kms_laws.proofs.Steps.{Holds, IsPlainScript, flushed_at, history_kept}
 use Rattle.kms_laws.proofs.Tails.{latch_more, latch_now}
 use Rattle.kms_laws.proofs.Traversal.{commit_of, latch_of}
 
@@ -185,11 +186,6 @@ tails_short t m k few =
 
 -- Steps
 
-claim-fresh : (t : Topology) (m : Machine) (k : ℕ) → may_claim t m k ≡ true → has_number m.device.marks.claimed k ≡ false
-unfolding may_claim
-claim-fresh t m k h = not-true (has_number m.device.marks.claimed k)
-    (and_parts (not (has_number m.device.marks.claimed k)) _ (and_parts _ _ h).1).0
-
 module _ (s : Script) (m : Machine) (H : Holds s m) where
   abbrev Lowers : Step → Machine → Type 0
   Lowers step m2 = (k : ℕ) → k < length m.device.commits → LeavesLess s.topology m m2 step k
@@ -220,7 +216,7 @@ module _ (s : Script) (m : Machine) (H : Holds s m) where
   claim_case : (j : ℕ) → may_claim s.topology m j ≡ true → Lowers (Claim j) (claims m j)
   claim_case j h =
       takes_one j (Claim j) (claims m j) refl (λ k. (let a = number-fewer j m.device.marks.claimed k in omega (arith, a)))
-      (let a = number-less j m.device.marks.claimed (claim-fresh s.topology m j h) in omega (arith, a))
+      (let a = number-less j m.device.marks.claimed (claim_guards s.topology m j h).unclaimed in omega (arith, a))
 
   write_case : (j : ℕ) (kind : Kind) (index : ℕ) → IsWrite s.topology m.device j (object_id kind index)
       → Lowers (Write j kind index) (writes s.topology m j (object_id kind index))

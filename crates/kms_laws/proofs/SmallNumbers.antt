@@ -1,7 +1,6 @@
 -- The numbers of each history fit their types.
 use Rattle.std.proofs.Common.{◌≡◌, ℕ, suc, ◌+◌, ◌*◌, ◌<◌, ◌≤◌, List, [], ◌∷◌, length, true, Option, Some, None, refl, ap, ◌∙◌, subst, arith}
 use Rattle.std.specs.List.{AllByRecursion}
-use Rattle.std.proofs.lemmas.Bool.{and_parts}
 use Rattle.std.proofs.lemmas.List.Elements.{All-from_recursion}
 use Rattle.kms_model.specs.declared.objects.Kind.TheVariants.{Crtc}
 use Rattle.kms_model.specs.declared.objects.Topology.{Topology}
@@ -18,6 +17,7 @@ use Rattle.kms_model.specs.Machine.Registers.{read}
 use Rattle.kms_model.specs.Machine.State.{DeviceState, Machine, doing_at, first_machine}
 use Rattle.kms_model.specs.Machine.Steps.{ticket_of}
 use Rattle.kms_model.specs.Script.WellFormed.{IsFitClient, IsWellFormed}
+use Rattle.kms_model.proofs.Guards.{legal_parts}
 use Rattle.kms_model.proofs.CrtcLemmas.{all_in}
 use Rattle.kms_model.proofs.Items.{IsObject, ids-in}
 use Rattle.kms_model.proofs.TouchedLemmas.{few_objects}
@@ -76,8 +76,8 @@ pub along_counted : (s : Script) (P : ℕ → Machine → Type 0)
 unfolding run_steps are_legal
 along_counted s P keeps [] n total m e p h = let same : n ≡ total = omega (arith, e) in subst (λ z. P z m) same p
 along_counted s P keeps (step ∷ steps) n total m e p h =
-    let both = and_parts (legal s m step) _ h in
-    along_counted s P keeps steps (suc n) total (next s m step) (omega (arith, e)) (keeps n m step p both.0) both.1
+    let all = legal_parts s m step steps h in
+    along_counted s P keeps steps (suc n) total (next s m step) (omega (arith, e)) (keeps n m step p all.first) all.rest
 
 pub record Counted (s : Script) (n : ℕ) (m : Machine) : Type 0 where
   pub facts : Facts s m

@@ -1,9 +1,8 @@
 -- Nothing but the end of a dead history ends a history.
-use Rattle.std.proofs.Common.{◌≡◌, true, false, not, refl, inl, inr, ◌⊎◌}
-use Rattle.std.proofs.lemmas.Bool.{and_parts, not-true}
+use Rattle.std.proofs.Common.{◌≡◌, true, refl, inl, inr, ◌⊎◌}
 use Rattle.kms_model.specs.declared.replies.Step.{Step}
-use Rattle.kms_model.specs.declared.replies.Step.TheVariants.{Begin, Lock, BackOff, Relock, Refuse, Test, Swap, Make, Signal, Claim, Write}
-use Rattle.kms_model.specs.declared.replies.Step.TheVariants.{Flush, HwDone, Vblank, Cleanup, Read, Return, Stall}
+use Rattle.kms_model.specs.declared.replies.Step.TheVariants.{Swap, Make, Signal}
+use Rattle.kms_model.specs.declared.replies.Step.TheVariants.{Stall}
 use Rattle.kms_model.specs.declared.scripts.Script.{Script}
 use Rattle.kms_model.specs.Device.Execution.{execute}
 use Rattle.kms_model.specs.Machine.Effects.{answers, goes_on, next, signals}
@@ -38,25 +37,3 @@ module _ (s : Script) (m : Machine) where
 
   pub ending : (step : Step) → legal s m step ≡ true → Ending m step (next s m step)
   ending step h = each_step s m (Ending m) carries_ending step h
-
--- nothing is legal after the end
-pub legal-going : (s : Script) (m : Machine) (step : Step) → legal s m step ≡ true → m.stalled ≡ false
-unfolding legal
-legal-going s m Stall h = not-true m.stalled (and_parts (not m.stalled) _ h).0
-legal-going s m (Begin client) h = not-true m.stalled (and_parts (not m.stalled) _ h).0
-legal-going s m (Lock client kind index) h = not-true m.stalled (and_parts (not m.stalled) _ h).0
-legal-going s m (BackOff client) h = not-true m.stalled (and_parts (not m.stalled) _ h).0
-legal-going s m (Relock client) h = not-true m.stalled (and_parts (not m.stalled) _ h).0
-legal-going s m (Refuse client) h = not-true m.stalled (and_parts (not m.stalled) _ h).0
-legal-going s m (Test client) h = not-true m.stalled (and_parts (not m.stalled) _ h).0
-legal-going s m (Swap client) h = not-true m.stalled (and_parts (not m.stalled) _ h).0
-legal-going s m (Make client) h = not-true m.stalled (and_parts (not m.stalled) _ h).0
-legal-going s m (Signal client) h = not-true m.stalled (and_parts (not m.stalled) _ h).0
-legal-going s m (Claim k) h = not-true m.stalled (and_parts (not m.stalled) _ h).0
-legal-going s m (Write k kind index) h = not-true m.stalled (and_parts (not m.stalled) _ h).0
-legal-going s m (Flush k kind index) h = not-true m.stalled (and_parts (not m.stalled) _ h).0
-legal-going s m (HwDone k) h = not-true m.stalled (and_parts (not m.stalled) _ h).0
-legal-going s m (Vblank kind index) h = not-true m.stalled (and_parts (not m.stalled) _ h).0
-legal-going s m (Cleanup k) h = not-true m.stalled (and_parts (not m.stalled) _ h).0
-legal-going s m (Read client) h = not-true m.stalled (and_parts (not m.stalled) _ h).0
-legal-going s m (Return client) h = not-true m.stalled (and_parts (not m.stalled) _ h).0

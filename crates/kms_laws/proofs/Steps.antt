@@ -1,12 +1,11 @@
 -- Each step of a history keeps what holds of the machine.
-use Rattle.std.proofs.Common.{⊎_elim, ◌≡◌, ℕ, ◌+◌, List, [], ◌∷◌, ◌++◌, length, Bool, true, false, not, ◌&&◌, ◌||◌, Option, Some, None}
+use Rattle.std.proofs.Common.{◌≡◌, ℕ, ◌+◌, List, [], ◌∷◌, ◌++◌, length, Bool, true, false, not, ◌||◌, Option, Some, None}
 use Rattle.std.proofs.Common.{refl, sym, ap, ◌∙◌, subst, arith, length-append}
-use Rattle.std.specs.Prelude.{if◌then◌else◌, is_none, is_some, nat_lt, reverse}
+use Rattle.std.specs.Prelude.{if◌then◌else◌, is_some, reverse}
 use Rattle.std.specs.List.{AllByRecursion}
-use Rattle.std.proofs.lemmas.Bool.{and_parts, eqb-true, false_from_ne_true, false≢true, ltb-true, not-true, or_cases}
+use Rattle.std.proofs.lemmas.Bool.{and_parts, false_from_ne_true, false≢true}
 use Rattle.std.proofs.lemmas.List.{length-reverse, take-append-le, take_all}
-use Rattle.kms_model.specs.declared.objects.Kind.{Kind}
-use Rattle.kms_model.specs.declared.objects.Kind.TheVariants.{Crtc, Plane, Conn, Enc}
+use Rattle.kms_model.specs.declared.objects.Kind.TheVariants.{Crtc}
 use Rattle.kms_model.specs.declared.objects.Topology.{Topology}
 use Rattle.kms_model.specs.declared.replies.Answered.{Answered}
 use Rattle.kms_model.specs.declared.replies.Event.{Event}
@@ -23,7 +22,7 @@ use Rattle.kms_model.specs.declared.scripts.Request.{Request}
 use Rattle.kms_model.specs.declared.scripts.Script.{Script}
 use Rattle.kms_model.specs.declared.worlds.World.{World}
 use Rattle.kms_model.specs.Device.Execution.{committed, execute}
-use Rattle.kms_model.specs.Device.Objects.{count_of, exists, ids_of, index_of, object_id}
+use Rattle.kms_model.specs.Device.Objects.{ids_of, index_of, object_id}
 use Rattle.kms_model.specs.Device.Serial.{Entry, command_of, is_accepted, serial}
 use Rattle.kms_model.specs.Device.Sound.{IsDevice}
 use Rattle.kms_model.specs.Headline.{IsVerdict, StandsAtPlace, entry_answered}
@@ -35,18 +34,22 @@ use Rattle.kms_model.specs.Machine.Effects.{made_thing, next, now_doing, reads, 
 use Rattle.kms_model.specs.Machine.Effects.{signals, swapped_state, writes, written_registers}
 use Rattle.kms_model.specs.Machine.Histories.{are_legal, at, is_history, legal, run_steps}
 use Rattle.kms_model.specs.Machine.Registers.{Registers, decoded_picture, latched_registers, read}
-use Rattle.kms_model.specs.Machine.State.{Commit, Machine, Marks, command_at, count_at, doing_at, entry_at, first_machine, go_at, has_value}
+use Rattle.kms_model.specs.Machine.State.{Commit, Machine, Marks, command_at, count_at, doing_at, entry_at, first_machine, go_at}
 use Rattle.kms_model.specs.Machine.State.{holder_at, place_at, request_at, request_in, reserved_at, unread_at}
-use Rattle.kms_model.specs.Machine.Steps.{contended, first_pending, holds_touched, idle_at, is_accepted_at, is_atomic, is_crtc_of}
-use Rattle.kms_model.specs.Machine.Steps.{is_making, is_settled_for, is_signal, is_wait, lacks_space, may, may_claim, may_refuse, may_swap}
-use Rattle.kms_model.specs.Machine.Steps.{may_test, next_flush, next_write, space_used, taking_at}
+use Rattle.kms_model.specs.Machine.Steps.{contended, first_pending, idle_at, is_atomic}
+use Rattle.kms_model.specs.Machine.Steps.{is_making, is_settled_for, is_signal, is_wait, lacks_space, may, may_refuse, may_swap}
+use Rattle.kms_model.specs.Machine.Steps.{may_test, space_used, taking_at}
 use Rattle.kms_model.specs.Request.Flags.{is_nonblock, is_test, wants_event}
-use Rattle.kms_model.specs.Request.Verdict.{early_in, late_in, verdict}
-use Rattle.kms_model.proofs.Items.{IsIn, ids-has, list_all-at}
+use Rattle.kms_model.specs.Request.Verdict.{verdict}
+use Rattle.kms_model.proofs.Guards.{Guards, IsClaiming, IsIdleAt, IsTakingAt, IsWrite, idle_guards, legal_guards, legal_parts}
+use Rattle.kms_model.proofs.Guards.{making_guards, refuse_guards, swap_guards, taking_guards, test_guards}
+use Rattle.kms_model.proofs.Guards.IsRefusing.{Busy, Early, Full, Late}
+use Rattle.kms_model.proofs.Items.{IsIn, list_all-at}
 use Rattle.kms_model.proofs.SoundKept.{accepted-parts}
-use Rattle.kms_model.proofs.ThingLemmas.{find-holds, find-in}
 use Rattle.kms_model.proofs.TouchedLemmas.{IsRequestAt}
 use Rattle.kms_model.proofs.Facts.{implied}
+pub use Rattle.kms_model.proofs.Facts.{none-is, value-is}
+pub use Rattle.kms_model.proofs.Guards.{IsFlush, flush-found}
 use Rattle.kms_laws.proofs.Basics.{both_bools, pair_now, read_same}
 use Rattle.kms_laws.proofs.Executed.{KeepsModes}
 use Rattle.kms_laws.proofs.Invariants.{Tail}
@@ -73,16 +76,6 @@ pub record Inv (s : Script) (w : World) (cs : List Commit) (ms : Marks) (sh : Re
 abbrev pub Holds : Script → Machine → Type 0
 Holds s m = Inv s m.device.world m.device.commits m.device.marks m.device.shadow m.device.go m.records.latches m.records.journal
     m.records.replies
-
--- Look-ups
-
-pub value-is : (n : ℕ) (o : Option ℕ) → has_value n o ≡ true → o ≡ Some n
-value-is n None h = absurd (false≢true h)
-value-is n (Some k) h = ap Some (eqb-true k n h)
-
-pub none-is : {A : Type 0} (o : Option A) → is_none o ≡ true → o ≡ None
-none-is None h = refl
-none-is (Some x) h = absurd (false≢true h)
 
 -- Replies
 
@@ -142,24 +135,16 @@ request-is (Some command.Wait) r e = absurd cc
 
 pub taking-none : (s : Script) (m : Machine) (client : ℕ) (test : Request → Bool) → request_at s m client ≡ None → taking_at s m client test
     ≡ true → ⊥
-taking-none s m client test e h = let g = rw e at h in false≢true ((and_parts _ _ g).1)
-
-pub taking-some : (s : Script) (m : Machine) (client : ℕ) (test : Request → Bool) (r : Request) → request_at s m client ≡ Some r
-    → taking_at s m client test ≡ true → test r ≡ true
-taking-some s m client test r e h = let g = rw e at h in (and_parts _ (test r) g).1
+taking-none s m client test none h = let one = sym none ∙ (taking_guards s m client test h).stands in absurd cc
 
 pub idle-none : (s : Script) (m : Machine) (client : ℕ) (test : Command → Bool) → command_at s m client ≡ None → idle_at s m client test
     ≡ true → ⊥
-idle-none s m client test e h = let g = rw e at h in false≢true ((and_parts _ _ g).1)
-
-pub idle-some : (s : Script) (m : Machine) (client : ℕ) (test : Command → Bool) (c : Command) → command_at s m client ≡ Some c
-    → idle_at s m client test ≡ true → test c ≡ true
-idle-some s m client test c e h = let g = rw e at h in (and_parts _ (test c) g).1
+idle-none s m client test none h = let one = sym none ∙ (idle_guards s m client test h).stands in absurd cc
 
 -- Verdicts
 
 pub not_atomic : (c : Command) → is_making c ≡ true → is_atomic c ≡ false
-not_atomic c h = not-true (is_atomic c) (and_parts (not (is_atomic c)) _ h).0
+not_atomic c h = (making_guards c h).no_atomic
 
 pub signal-other : (c : Command) → is_signal c ≡ true → is_atomic c ≡ false
 signal-other (command.Signal label) h = refl
@@ -182,21 +167,14 @@ other_verdict_at s m client r c is other = subst (IsVerdict s m.device.world r) 
 -- an accepted request that is refused while there is space is busy
 busy_for : (t : Topology) (m : Machine) (client : ℕ) (r : Request) → may_refuse t m client r ≡ true → verdict t m.device.world r ≡ None
     → lacks_space t m client r ≡ false → is_some (first_pending t m r) ≡ true
-unfolding may_refuse
 busy_for t m client r h none space =
     let parts = accepted-parts t m.device.world r none in
-    ⊎_elim
-    (λ early. absurd (both_bools _ early (ap is_some parts.first_none)))
-    (λ rest.
-    ⊎_elim
-    (λ late. absurd (both_bools _ late (ap is_some parts.second_none)))
-    (λ refused_late.
-    ⊎_elim
-    (λ lacks. absurd (both_bools _ lacks space))
-    (λ busy. (and_parts (is_nonblock r.flags) _ busy).1)
-    (or_cases (lacks_space t m client r) _ (and_parts (not (is_test r.flags)) _ refused_late).1))
-    (or_cases (is_some (late_in t m.device.world r)) _ (and_parts (holds_touched t m client r) _ rest).1))
-    (or_cases (is_some (early_in t m.device.world r)) _ h)
+    elim (refuse_guards t m client r h) [
+      | Early early ↦ absurd (both_bools _ early (ap is_some parts.first_none))
+      | Late held late ↦ absurd (both_bools _ late (ap is_some parts.second_none))
+      | Full held no_test full ↦ absurd (both_bools _ full space)
+      | Busy held no_test nonblock pending ↦ pending
+    ]
 
 refusal_verdict : (s : Script) (m : Machine) (client : ℕ) (r : Request) → may_refuse s.topology m client r ≡ true
     → IsVerdict s m.device.world (refusal_reply s.topology m client r (verdict s.topology m.device.world r)) (Some (command.Atomic r))
@@ -218,39 +196,30 @@ refusal_verdict s m client r h = with_verdict (verdict s.topology m.device.world
     with_verdict (Some n) e = e
     with_verdict None e = without (lacks_space s.topology m client r) refl e
 
-refuse_kept : (s : Script) (m : Machine) (client : ℕ) → Holds s m → taking_at s m client (may_refuse s.topology m client) ≡ true
+refuse_kept : (s : Script) (m : Machine) (client : ℕ) → Holds s m → IsTakingAt s m client (may_refuse s.topology m client)
     → Holds s (refused s.topology m client (request_at s m client))
 unfolding refused
-refuse_kept s m client H h = go (request_at s m client) refl
-  where
-    go : (o : Option Request) → request_at s m client ≡ o → Holds s (refused s.topology m client o)
-    go None e = H
-    go (Some r) e =
-        let answer : Reply = refusal_reply s.topology m client r (verdict s.topology m.device.world r) in
-        decided_kept s m client answer H
-        (subst (IsVerdict s m.device.world answer) (sym (request-is (command_at s m client) r e))
-        (refusal_verdict s m client r (taking-some s m client (may_refuse s.topology m client) r e h)))
+refuse_kept s m client H g =
+    let answer : Reply = refusal_reply s.topology m client g.request (verdict s.topology m.device.world g.request) in
+    subst (λ o. Holds s (refused s.topology m client o)) (sym g.stands) (decided_kept s m client answer H
+    (subst (IsVerdict s m.device.world answer) (sym (request-is (command_at s m client) g.request g.stands))
+    (refusal_verdict s m client g.request g.passes)))
 
-test_kept : (s : Script) (m : Machine) (client : ℕ) → Holds s m → taking_at s m client (may_test s.topology m client) ≡ true
+test_kept : (s : Script) (m : Machine) (client : ℕ) → Holds s m → IsTakingAt s m client (may_test s.topology m client)
     → Holds s (decided m client reply.Tested)
-unfolding may_test
-test_kept s m client H h = go (request_at s m client) refl
-  where
-    go : (o : Option Request) → request_at s m client ≡ o → Holds s (decided m client reply.Tested)
-    go None e = absurd (taking-none s m client (may_test s.topology m client) e h)
-    go (Some r) e =
-        let may = taking-some s m client (may_test s.topology m client) r e h in
-        let accepted : is_accepted_at s.topology m r ≡ true = (and_parts _ _ (and_parts (is_test r.flags) _ may).1).1 in
-        decided_kept s m client reply.Tested H
-        (subst (IsVerdict s m.device.world reply.Tested) (sym (request-is (command_at s m client) r e))
-        (none-is (verdict s.topology m.device.world r) accepted))
+test_kept s m client H g =
+    decided_kept s m client reply.Tested H
+    (subst (IsVerdict s m.device.world reply.Tested) (sym (request-is (command_at s m client) g.request g.stands))
+    (test_guards s.topology m client g.request g.passes).accepted)
 
 -- Things made and closed
 
-make_kept : (s : Script) (m : Machine) (client : ℕ) → IsPlainScript s → Holds s m → idle_at s m client is_making ≡ true
+make_kept : (s : Script) (m : Machine) (client : ℕ) → IsPlainScript s → Holds s m → IsIdleAt s m client is_making
     → Holds s (made_thing s.topology m client (command_at s m client))
 unfolding made_thing
-make_kept s m client plain H h = go (command_at s m client) refl
+make_kept s m client plain H g = subst (λ o. Holds s (made_thing s.topology m client o)) (sym g.stands)
+    (with_reply g.command g.stands (making_guards g.command g.passes).no_atomic
+    (is_accepted (execute s.topology m.device.world client g.command).reply) refl)
   where
     with_reply : (c : Command) → command_at s m client ≡ Some c → is_atomic c ≡ false → (b : Bool)
         → is_accepted (execute s.topology m.device.world client c).reply ≡ b
@@ -277,11 +246,6 @@ make_kept s m client plain H h = go (command_at s m client) refl
           replies = A.replies;
         }
 
-    go : (o : Option Command) → command_at s m client ≡ o → Holds s (made_thing s.topology m client o)
-    go None e = absurd (idle-none s m client is_making e h)
-    go (Some c) e = with_reply c e (not_atomic c (idle-some s m client is_making c e h))
-        (is_accepted (execute s.topology m.device.world client c).reply) refl
-
 signals_kept : (s : Script) (m : Machine) (o : Option ℕ) → Holds s m → Holds s (signals m o)
 signals_kept s m None H = H
 signals_kept s m (Some fence) H = H
@@ -290,37 +254,30 @@ fence_kept : (s : Script) (m : Machine) (o : Option Command) (r : Reply) → Hol
 fence_kept s m (Some (command.Signal label)) reply.Done H = signals_kept s m _ H
 fence_kept s m _ _ H = H
 
-signal_kept : (s : Script) (m : Machine) (client : ℕ) → Holds s m → idle_at s m client is_signal ≡ true
+signal_kept : (s : Script) (m : Machine) (client : ℕ) → Holds s m → IsIdleAt s m client is_signal
     → Holds s (signalled_by s.topology m client (command_at s m client))
-signal_kept s m client H h = go (command_at s m client) refl
-  where
-    go : (o : Option Command) → command_at s m client ≡ o → Holds s (signalled_by s.topology m client o)
-    go None e = H
-    go (Some c) e =
-        let answer : Reply = (execute s.topology m.device.world client c).reply in
-        fence_kept s (answers m client answer) (Some c) answer
-        (answers_kept s m client answer H (other_verdict_at s m client answer c e (signal-other c (idle-some s m client is_signal c e h))))
+signal_kept s m client H g =
+    let answer : Reply = (execute s.topology m.device.world client g.command).reply in
+    subst (λ o. Holds s (signalled_by s.topology m client o)) (sym g.stands)
+    (fence_kept s (answers m client answer) (Some g.command) answer
+    (answers_kept s m client answer H (other_verdict_at s m client answer g.command g.stands (signal-other g.command g.passes))))
 
-read_kept : (s : Script) (m : Machine) (client : ℕ) (events : List Event) → Holds s m → idle_at s m client is_wait ≡ true
+read_kept : (s : Script) (m : Machine) (client : ℕ) (events : List Event) → Holds s m → IsIdleAt s m client is_wait
     → Holds s (reads m client events)
-read_kept s m client events H h = go (command_at s m client) refl events
-  where
-    with_command : (c : Command) → command_at s m client ≡ Some c → (events : List Event) → Holds s (reads m client events)
-    with_command c e [] = answers_kept s m client reply.NoEvent H
-        (other_verdict_at s m client reply.NoEvent c e (wait-other c (idle-some s m client is_wait c e h)))
-    with_command c e (event ∷ events) = answers_kept s m client (reply.Event event) H
-        (other_verdict_at s m client (reply.Event event) c e (wait-other c (idle-some s m client is_wait c e h)))
-
-    go : (o : Option Command) → command_at s m client ≡ o → (events : List Event) → Holds s (reads m client events)
-    go None e events = absurd (idle-none s m client is_wait e h)
-    go (Some c) e events = with_command c e events
+read_kept s m client [] H g = answers_kept s m client reply.NoEvent H
+    (other_verdict_at s m client reply.NoEvent g.command g.stands (wait-other g.command g.passes))
+read_kept s m client (event ∷ events) H g = answers_kept s m client (reply.Event event) H
+    (other_verdict_at s m client (reply.Event event) g.command g.stands (wait-other g.command g.passes))
 
 -- A swap
 
-swap_kept : (s : Script) (m : Machine) (client : ℕ) → IsPlainScript s → Holds s m → taking_at s m client (may_swap s.topology m client)
-    ≡ true → Holds s (swapped_state s.topology m client (request_at s m client))
-unfolding may_swap swapped_state
-swap_kept s m client plain H h = go (request_at s m client) refl
+swap_kept : (s : Script) (m : Machine) (client : ℕ) → IsPlainScript s → Holds s m
+    → IsTakingAt s m client (may_swap s.topology m client) → Holds s (swapped_state s.topology m client (request_at s m client))
+unfolding swapped_state
+swap_kept s m client plain H g =
+    let swap = swap_guards s.topology m client g.request g.passes in
+    subst (λ o. Holds s (swapped_state s.topology m client o)) (sym g.stands)
+    (swapped g.request (request-is (command_at s m client) g.request g.stands) swap.no_test swap.accepted)
   where
     swapped : (r : Request) → command_at s m client ≡ Some (command.Atomic r) → is_test r.flags ≡ false
         → verdict s.topology m.device.world r ≡ None → Holds s (swapped_state s.topology m client (Some r))
@@ -362,46 +319,26 @@ swap_kept s m client plain H h = go (request_at s m client) refl
         with_flags false true = now
         with_flags false false = now
 
-    go : (o : Option Request) → request_at s m client ≡ o → Holds s (swapped_state s.topology m client o)
-    go None e = H
-    go (Some r) e =
-        let may = taking-some s m client (may_swap s.topology m client) r e h in
-        let first = and_parts (not (is_test r.flags)) _ may in
-        let second = and_parts _ _ first.1 in
-        let third = and_parts (is_accepted_at s.topology m r) _ second.1 in
-        swapped r (request-is (command_at s m client) r e) (not-true (is_test r.flags) first.0)
-        (none-is (verdict s.topology m.device.world r) third.0)
-
 -- Tails
 
 module _ (s : Script) (m : Machine) (H : Holds s m) where
-  claim_step : (k : ℕ) → may_claim s.topology m k ≡ true → Holds s (claims m k)
-  unfolding may_claim previous
-  claim_step k h =
-      let a = and_parts (nat_lt k (length m.device.commits)) _ h in
-      let b = and_parts _ _ a.1 in
-      let c = and_parts _ _ b.1 in
-      record {
-        tail = claim_kept H.tail k (ltb-true k (length m.device.commits) a.0)
-            (λ o i touch. implied (commit_touches s.topology m.device.commits k o) (is_settled_for s.topology m k o)
-            (list_all-at (λ object. not (commit_touches s.topology m.device.commits k object) || is_settled_for s.topology m k object)
-            (lockable s.topology) o c.1 i) touch);
-        present = H.present;
-        replies = H.replies;
-      }
+  claim_step : (k : ℕ) → IsClaiming s.topology m k → Holds s (claims m k)
+  unfolding previous
+  claim_step k g = record {
+    tail = claim_kept H.tail k g.within
+        (λ o i touch. implied (commit_touches s.topology m.device.commits k o) (is_settled_for s.topology m k o)
+        (list_all-at (λ object. not (commit_touches s.topology m.device.commits k object) || is_settled_for s.topology m k object)
+        (lockable s.topology) o g.settled i) touch);
+    present = H.present;
+    replies = H.replies;
+  }
 
-  write_step : (k o : ℕ) → has_number m.device.marks.claimed k ≡ true → next_write s.topology m.device k ≡ Some o
-      → Holds s (writes s.topology m k o)
-  unfolding next_write
-  write_step k o claimed e =
+  write_step : (k o : ℕ) → IsWrite s.topology m.device k o → Holds s (writes s.topology m k o)
+  write_step k o W =
       let t = s.topology in
       let d = m.device in
-      let i : IsIn o (registered t) = find-in (λ object. commit_touches t d.commits k object && not (has_pair d.marks.written k object))
-      (registered t) o e in
-      let two = and_parts (commit_touches t d.commits k o) _
-      (find-holds (λ object. commit_touches t d.commits k object && not (has_pair d.marks.written k object)) (registered t) o e) in
       record {
-        tail = write_kept H.tail k o claimed i two.0 (not-true (has_pair d.marks.written k o) two.1) (written_registers t d k o)
+        tail = write_kept H.tail k o W.claimed W.is_registered W.touches W.fresh (written_registers t d k o)
             (λ p ip same. written-plane t d k o p ip same) (λ p ip ne. other-plane t d k o p ne)
             (λ c ic same. written-crtc t d k o c H.tail.few ic same) (λ c ic ne. other-crtc t d k o c ne);
         present = H.present;
@@ -473,19 +410,6 @@ module _ (s : Script) (m : Machine) (H : Holds s m) where
 abbrev pub flushed_at : Machine → ℕ → ℕ → Machine
 flushed_at m k c = record m { device = record m.device { marks = record m.device.marks { flushed = (k, c) ∷ m.device.marks.flushed } } }
 
--- what a flush finds
-pub record IsFlush (t : Topology) (m : Machine) (k c : ℕ) : Type 0 where
-  pub is_crtc : IsIn c (ids_of t Crtc)
-  pub names : commit_names t m.device.commits k c ≡ true
-  pub fresh : has_pair m.device.marks.flushed k c ≡ false
-
-pub flush-found : (t : Topology) (m : Machine) (k c : ℕ) → next_flush t m.device k ≡ Some c → IsFlush t m k c
-unfolding next_flush
-flush-found t m k c e =
-    let test = λ (crtc : ℕ). commit_names t m.device.commits k crtc && not (has_pair m.device.marks.flushed k crtc) in
-    let two = and_parts (commit_names t m.device.commits k c) _ (find-holds test (ids_of t Crtc) c e) in
-    record { is_crtc = find-in test (ids_of t Crtc) c e; names = two.0; fresh = not-true (has_pair m.device.marks.flushed k c) two.1 }
-
 module _ (s : Script) (m : Machine) (H : Holds s m) where
   pub flushed_holds : (k c : ℕ) → is_all_written s.topology m.device k ≡ true → IsFlush s.topology m k c → Holds s (flushed_at m k c)
   flushed_holds k c written f = record {
@@ -533,12 +457,6 @@ module _ (s : Script) (m : Machine) (H : Holds s m) where
 
 -- Steps
 
-pub crtc_of_step : (t : Topology) (kind : Kind) (index : ℕ) → is_crtc_of t kind index ≡ true → IsIn (object_id kind index) (ids_of t Crtc)
-crtc_of_step t Crtc index h = ids-has t Crtc index (ltb-true index (count_of t Crtc) h)
-crtc_of_step t Plane index h = absurd (false≢true h)
-crtc_of_step t Conn index h = absurd (false≢true h)
-crtc_of_step t Enc index h = absurd (false≢true h)
-
 locked_kept : (s : Script) (m : Machine) (client object : ℕ) (o : Option ℕ) → Holds s m → Holds s (locked m client object o)
 locked_kept s m client object None H = H
 locked_kept s m client object (Some holder) H = H
@@ -547,40 +465,26 @@ relocked_kept : (s : Script) (m : Machine) (client : ℕ) (o : Option ℕ) → H
 relocked_kept s m client None H = H
 relocked_kept s m client (Some object) H = H
 
-pub may_kept : (s : Script) (m : Machine) (step : Step) → IsPlainScript s → Holds s m → may s m step ≡ true → Holds s (next s m step)
-unfolding may next
-may_kept s m (Begin client) plain H h = H
-may_kept s m (Lock client kind index) plain H h = locked_kept s m client (object_id kind index) (holder_at m (object_id kind index)) H
-may_kept s m (BackOff client) plain H h = H
-may_kept s m (Relock client) plain H h = relocked_kept s m client (contended (doing_at m client)) H
-may_kept s m (Refuse client) plain H h = refuse_kept s m client H h
-may_kept s m (Test client) plain H h = test_kept s m client H h
-may_kept s m (Swap client) plain H h = swap_kept s m client plain H h
-may_kept s m (Make client) plain H h = make_kept s m client plain H h
-may_kept s m (Signal client) plain H h = signal_kept s m client H h
-may_kept s m (Claim k) plain H h = claim_step s m H k h
-may_kept s m (Write k kind index) plain H h =
-    let a = and_parts (has_number m.device.marks.claimed k) _ h in
-    let b = and_parts (exists s.topology kind index) _ a.1 in
-    write_step s m H k (object_id kind index) a.0 (value-is (object_id kind index) (next_write s.topology m.device k) b.1)
-may_kept s m (Flush k kind index) plain H h =
-    let a = and_parts (is_all_written s.topology m.device k) _ h in
-    let b = and_parts (exists s.topology kind index) _ a.1 in
-    flush_step s m H k (object_id kind index) a.0
-    (flush-found s.topology m k (object_id kind index) (value-is (object_id kind index) (next_flush s.topology m.device k) b.1))
-may_kept s m (HwDone k) plain H h =
-    let a = and_parts (has_number m.device.marks.claimed k) _ h in
-    let b = and_parts (is_all_written s.topology m.device k) _ a.1 in
-    hw_done_step s m H k a.0 b.0
-may_kept s m (Vblank kind index) plain H h = vblank_step s m H (object_id kind index)
-    (crtc_of_step s.topology kind index (and_parts (is_crtc_of s.topology kind index) _ h).0)
-may_kept s m (Cleanup k) plain H h =
-    let a = and_parts (has_number m.device.marks.done k) _ h in
-    let b = and_parts (is_all_latched s.topology m.device m.records.latches k) _ a.1 in
-    cleanup_step s m H k a.0 b.0
-may_kept s m (Read client) plain H h = read_kept s m client (unread_at m.events client) H (and_parts (idle_at s m client is_wait) _ h).0
-may_kept s m (Return client) plain H h = H
-may_kept s m Stall plain H h = H
+guarded_kept : (s : Script) (m : Machine) (step : Step) → IsPlainScript s → Holds s m → Guards s m step → Holds s (next s m step)
+unfolding next
+guarded_kept s m (Begin client) plain H g = H
+guarded_kept s m (Lock client kind index) plain H g = locked_kept s m client (object_id kind index) (holder_at m (object_id kind index)) H
+guarded_kept s m (BackOff client) plain H g = H
+guarded_kept s m (Relock client) plain H g = relocked_kept s m client (contended (doing_at m client)) H
+guarded_kept s m (Refuse client) plain H g = refuse_kept s m client H g
+guarded_kept s m (Test client) plain H g = test_kept s m client H g
+guarded_kept s m (Swap client) plain H g = swap_kept s m client plain H g
+guarded_kept s m (Make client) plain H g = make_kept s m client plain H g
+guarded_kept s m (Signal client) plain H g = signal_kept s m client H g
+guarded_kept s m (Claim k) plain H g = claim_step s m H k g
+guarded_kept s m (Write k kind index) plain H g = write_step s m H k (object_id kind index) g.write
+guarded_kept s m (Flush k kind index) plain H g = flush_step s m H k (object_id kind index) g.written g.flush
+guarded_kept s m (HwDone k) plain H g = hw_done_step s m H k g.claimed g.written
+guarded_kept s m (Vblank kind index) plain H g = vblank_step s m H (object_id kind index) g.is_crtc
+guarded_kept s m (Cleanup k) plain H g = cleanup_step s m H k g.done g.latched
+guarded_kept s m (Read client) plain H g = read_kept s m client (unread_at m.events client) H g.waits
+guarded_kept s m (Return client) plain H g = H
+guarded_kept s m Stall plain H g = H
 
 -- a step that is legal is the end of a dead history, or it may be done
 pub data IsLegal (s : Script) (m : Machine) : Step → Type 0 where
@@ -590,34 +494,10 @@ pub data IsLegal (s : Script) (m : Machine) : Step → Type 0 where
 pub legal-cases : (s : Script) (m : Machine) (step : Step) → legal s m step ≡ true → IsLegal s m step
 unfolding legal
 legal-cases s m Stall h = Ends
-legal-cases s m (Begin client) h = May (and_parts (not m.stalled) _ h).1
-legal-cases s m (Lock client kind index) h = May (and_parts (not m.stalled) _ h).1
-legal-cases s m (BackOff client) h = May (and_parts (not m.stalled) _ h).1
-legal-cases s m (Relock client) h = May (and_parts (not m.stalled) _ h).1
-legal-cases s m (Refuse client) h = May (and_parts (not m.stalled) _ h).1
-legal-cases s m (Test client) h = May (and_parts (not m.stalled) _ h).1
-legal-cases s m (Swap client) h = May (and_parts (not m.stalled) _ h).1
-legal-cases s m (Make client) h = May (and_parts (not m.stalled) _ h).1
-legal-cases s m (Signal client) h = May (and_parts (not m.stalled) _ h).1
-legal-cases s m (Claim k) h = May (and_parts (not m.stalled) _ h).1
-legal-cases s m (Write k kind index) h = May (and_parts (not m.stalled) _ h).1
-legal-cases s m (Flush k kind index) h = May (and_parts (not m.stalled) _ h).1
-legal-cases s m (HwDone k) h = May (and_parts (not m.stalled) _ h).1
-legal-cases s m (Vblank kind index) h = May (and_parts (not m.stalled) _ h).1
-legal-cases s m (Cleanup k) h = May (and_parts (not m.stalled) _ h).1
-legal-cases s m (Read client) h = May (and_parts (not m.stalled) _ h).1
-legal-cases s m (Return client) h = May (and_parts (not m.stalled) _ h).1
-
-stall_kept : (s : Script) (m : Machine) → Holds s m → Holds s (next s m Stall)
-unfolding next
-stall_kept s m H = H
+legal-cases s m step h = May (and_parts (not m.stalled) (may s m step) h).1
 
 pub step_kept : (s : Script) (m : Machine) (step : Step) → IsPlainScript s → Holds s m → legal s m step ≡ true → Holds s (next s m step)
-step_kept s m step plain H h = go step (legal-cases s m step h)
-  where
-    go : (step : Step) → IsLegal s m step → Holds s (next s m step)
-    go step Ends = stall_kept s m H
-    go step (May may) = may_kept s m step plain H may
+step_kept s m step plain H h = guarded_kept s m step plain H (legal_guards s m step h)
 
 -- Histories
 
@@ -627,8 +507,8 @@ pub along : (s : Script) (P : Machine → Type 0) → ((m : Machine) (step : Ste
 unfolding run_steps are_legal
 along s P keeps [] m holds h = holds
 along s P keeps (step ∷ steps) m holds h =
-    let both = and_parts (legal s m step) _ h in
-    along s P keeps steps (next s m step) (keeps m step holds both.0) both.1
+    let all = legal_parts s m step steps h in
+    along s P keeps steps (next s m step) (keeps m step holds all.first) all.rest
 
 pub first_kept : (s : Script) → IsPlainScript s → Holds s (first_machine s.topology)
 first_kept s plain = record { tail = start_tail s.topology plain.device; present = start_present s plain.device; replies = tt }

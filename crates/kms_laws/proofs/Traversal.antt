@@ -19,13 +19,13 @@ use Rattle.kms_model.specs.Machine.State.{Commit, DeviceState, Machine, command_
 use Rattle.kms_model.specs.Machine.Steps.{is_atomic, may_claim}
 use Rattle.kms_model.specs.Request.Flags.{is_test}
 use Rattle.kms_model.specs.Request.Verdict.{verdict}
+use Rattle.kms_model.proofs.Guards.{IsFlush, IsSwapping, IsWrite, swap_guards}
 use Rattle.kms_model.proofs.Items.{IsIn}
 use Rattle.kms_laws.proofs.Basics.{pair_now}
-use Rattle.kms_laws.proofs.EachStep.{Carries, IsSwap, IsWrite, by_bool, by_fence, by_latch, by_two, each_step, latched_as, locks_leave}
-use Rattle.kms_laws.proofs.EachStep.{made_as, swap-found, swapped_as}
+use Rattle.kms_laws.proofs.EachStep.{Carries, by_bool, by_fence, by_latch, by_two, each_step, latched_as, locks_leave, made_as, swapped_as}
 use Rattle.kms_laws.proofs.Invariants.{Tail}
-use Rattle.kms_laws.proofs.Steps.{Holds, IsFlush, IsPlainScript, along, counted_holds, first_kept, flushed_at, flushed_holds}
-use Rattle.kms_laws.proofs.Steps.{fresh-unlatched, not_atomic, step_kept}
+use Rattle.kms_laws.proofs.Steps.{Holds, IsPlainScript, along, counted_holds, first_kept, flushed_at, flushed_holds, fresh-unlatched}
+use Rattle.kms_laws.proofs.Steps.{not_atomic, step_kept}
 
 abbrev pub TailOf : Topology → DeviceState → List Latch → Type 0
 TailOf t d ls = Tail t d.commits d.marks d.shadow d.go ls
@@ -86,8 +86,8 @@ module _ (s : Script) (P : DeviceState → List Latch → Type 0) (K : IsKept s 
   abbrev Of : Machine → Type 0
   Of m2 = P m2.device m2.records.latches
 
-  swap_keeps : (client : ℕ) (r : Request) → command_at s m client ≡ Some (command.Atomic r) → IsSwap s.topology m client r → (b w : Bool)
-      → Of (swapped_as s.topology b w m client r)
+  swap_keeps : (client : ℕ) (r : Request) → command_at s m client ≡ Some (command.Atomic r) → IsSwapping s.topology m client r
+      → (b w : Bool) → Of (swapped_as s.topology b w m client r)
   swap_keeps client r is found =
       let now = K.swapped m client r H is found.accepted found.no_test p in
       by_two (λ b w. Of (swapped_as s.topology b w m client r)) now now now now
@@ -143,7 +143,7 @@ module _ (s : Script) (P : DeviceState → List Latch → Type 0) (K : IsKept s 
     answers = record {
       refuses = λ client r e taking may. p;
       tests = λ client r e taking may. p;
-      swaps = λ client r e taking may b w eb ew. swap_keeps client r e (swap-found s.topology m client r may) b w;
+      swaps = λ client r e taking may b w eb ew. swap_keeps client r e (swap_guards s.topology m client r may) b w;
       makes = λ client c e making idle b eb.
           by_bool (λ b. Of (made_as b m client (execute s.topology m.device.world client c)))
           (K.made m client c H e (not_atomic c making) p) (K.made m client c H e (not_atomic c making) p) b;

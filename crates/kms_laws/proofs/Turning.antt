@@ -4,7 +4,7 @@ use Rattle.std.proofs.Common.{refl, sym, ap, ◌∙◌, subst, arith, inl, inr, 
 use Rattle.std.specs.Prelude.{if◌then◌else◌, find, is_some, reverse}
 use Rattle.std.specs.List.{fold, range_with_len}
 use Rattle.std.specs.Option.{option_and_then, option_map}
-use Rattle.std.proofs.lemmas.Bool.{and_from, and_parts, lt-ltb}
+use Rattle.std.proofs.lemmas.Bool.{and_from, lt-ltb}
 use Rattle.kms_model.specs.declared.objects.Kind.{Kind}
 use Rattle.kms_model.specs.declared.objects.Kind.TheVariants.{Crtc, Plane, Conn}
 use Rattle.kms_model.specs.declared.objects.Topology.{Topology}
@@ -23,6 +23,7 @@ use Rattle.kms_model.specs.Machine.Steps.{is_lockable, may, may_lock}
 use Rattle.kms_model.specs.Order.Rounds.{is_still, round, rounds}
 use Rattle.kms_model.specs.Order.Turns.{Progress, client_goes, client_step, does, does_then, first_missing, is_answering, lock_step}
 use Rattle.kms_model.specs.Order.Turns.{most_of_turn, next_lock, returns, settles, tail_step, tails_go, turn}
+use Rattle.kms_model.proofs.Guards.{legal_parts}
 use Rattle.kms_model.proofs.Items.{IsIn, IsObject, ids-in, list_any-has}
 use Rattle.kms_model.proofs.ThingLemmas.{find-holds, find-in}
 use Rattle.kms_model.proofs.TouchedLemmas.{HasFewObjects}
@@ -52,8 +53,8 @@ pub legal-more : (s : Script) (m : Machine) (h : List Step) (step : Step) → ar
     → are_legal s m (h ++ step ∷ []) ≡ true
 unfolding run_steps are_legal
 legal-more s m [] step is l = and_from _ _ l refl
-legal-more s m (x ∷ h) step is l = let both = and_parts (legal s m x) _ is
-    in and_from _ _ both.0 (legal-more s (next s m x) h step both.1 l)
+legal-more s m (x ∷ h) step is l = let all = legal_parts s m x h is
+    in and_from _ _ all.first (legal-more s (next s m x) h step all.rest l)
 
 pub run-does : (s : Script) (run : Progress) (step : Step) → IsRun s run → legal s run.machine step ≡ true → IsRun s (does s run step)
 run-does s run step R l = record {

@@ -12,6 +12,7 @@ use Rattle.kms_model.specs.declared.scripts.Script.{Script}
 use Rattle.kms_model.specs.Device.Objects.{ids_of, index_of, object_id}
 use Rattle.kms_model.specs.Machine.Commits.{commit_concerns, commit_touches, has_latched, has_pair, lockable, out_fence_of}
 use Rattle.kms_model.specs.Machine.Effects.{written_registers}
+use Rattle.kms_model.proofs.Guards.{IsWrite}
 use Rattle.kms_laws.proofs.Written.{other-plane, written-plane}
 use Rattle.kms_model.specs.Machine.Histories.{at, is_history, last_latched}
 use Rattle.kms_model.specs.Machine.Registers.{PlaneWords, Registers, copied_planes, crtc_register, decoded_picture, first_crtc_words}
@@ -31,7 +32,6 @@ use Rattle.kms_laws.proofs.Numbered.{picture_old}
 use Rattle.kms_laws.proofs.Objects.{crtc_index, plane_registered}
 use Rattle.kms_laws.proofs.Steps.{IsPlainScript}
 use Rattle.kms_laws.proofs.Tails.{latch_cases}
-use Rattle.kms_laws.proofs.EachStep.{IsWrite}
 use Rattle.kms_laws.proofs.Traversal.{IsKept, IsLatch, TailOf, along_history, commit_of, latch_of, latched_any}
 
 -- A plane is live on one side of a commit and in the shadow on the other, one of them no CRTC.

@@ -2,7 +2,7 @@
 use Rattle.std.proofs.Common.{◌≡◌, ℕ, Bool, true, false, List, [], ◌∷◌, ◌++◌, map, length, refl, codes, Option, Some, None}
 use Rattle.kms_model.specs.declared.objects.Format.TheVariants.{Xr24}
 use Rattle.kms_model.specs.declared.objects.Kind.TheVariants as kind
-use Rattle.kms_model.specs.declared.properties.TheConstants.{ACTIVE, ALPHA, CRTC_ID, FB_ID, MODE_ID}
+use Rattle.kms_model.specs.declared.properties.TheConstants.{ACTIVE, ALPHA, CRTC_ID, MODE_ID}
 use Rattle.kms_model.specs.declared.replies.Answered.{Answered}
 use Rattle.kms_model.specs.declared.replies.Reply.TheVariants as reply
 use Rattle.kms_model.specs.declared.reports.End.TheVariants.{Drained}

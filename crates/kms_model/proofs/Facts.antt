@@ -1,6 +1,6 @@
 -- Facts of booleans, options, lists and integers that several crates use.
 use Rattle.std.proofs.Common.{◌≡◌, ℕ, zero, suc, ◌+◌, List, [], ◌∷◌, map, Bool, true, false, not, ◌||◌, Option, Some, None, ◌⊎◌, inl, inr}
-use Rattle.std.proofs.Common.{refl, sym, subst, cond, replicate, ℤ, pos, negsuc, ◌≤ℤ◌, SFits, rules, arith}
+use Rattle.std.proofs.Common.{refl, sym, ap, subst, cond, replicate, ℤ, pos, negsuc, SFits, rules, arith}
 use Rattle.std.specs.Prelude.{◌&&◌, ◌==◌, All, is_none, is_some, slice_get}
 use Rattle.std.specs.Int.{w32, cast_signed, cast_unsigned}
 use Rattle.std.specs.List.{AllByRecursion, list_all, range_with_len}
@@ -11,6 +11,7 @@ use Rattle.kms_model.specs.declared.states.Both.{Both}
 use Rattle.kms_model.specs.Device.Sound.{IsBetween}
 use Rattle.kms_model.specs.Firsts.{or_else}
 use Rattle.kms_model.specs.Machine.Commits.{has_number}
+use Rattle.kms_model.specs.Machine.State.{has_value}
 use Rattle.kms_model.proofs.Items.{IsIn, list_any-some}
 
 -- Booleans
@@ -43,6 +44,14 @@ other_number n k b apart = rw apart refl
 pub none-some : {A : Type 0} (o : Option A) → is_none o ≡ not (is_some o)
 none-some None = refl
 none-some (Some x) = refl
+
+pub none-is : {A : Type 0} (o : Option A) → is_none o ≡ true → o ≡ None
+none-is None h = refl
+none-is (Some x) h = absurd (false≢true h)
+
+pub value-is : (n : ℕ) (o : Option ℕ) → has_value n o ≡ true → o ≡ Some n
+value-is n None h = absurd (false≢true h)
+value-is n (Some k) h = ap Some (eqb-true k n h)
 
 pub or_else-none : {A : Type 0} (first : Option A) → or_else first None ≡ first
 or_else-none None = refl

@@ -11,6 +11,7 @@ pub mod FewerLemmas
 pub mod FewerRows
 pub mod FramedLemmas
 pub mod GammaRoundTrip
+pub mod Guards
 pub mod HeldValues
 pub mod ImageWords
 pub mod InPlace

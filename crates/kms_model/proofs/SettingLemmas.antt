@@ -1,8 +1,8 @@
 -- What an allowed assignment sets is among its property's values.
-use Rattle.std.proofs.Common.{◌≡◌, ℕ, Bool, true, false, Option, Some, None, inl, inr, refl, sym, subst}
+use Rattle.std.proofs.Common.{◌≡◌, ℕ, Bool, true, false, Option, Some, None, inl, inr, refl, subst}
 use Rattle.std.specs.Prelude.{not, ◌&&◌, ◌||◌, ◌==◌, IfSome}
 use Rattle.std.specs.List.{list_all}
-use Rattle.std.proofs.lemmas.Bool.{and_from, and_parts, cases_Bool, eqb-true, not_from_false}
+use Rattle.std.proofs.lemmas.Bool.{and_from, and_parts, cases_Bool, eqb-true, not_from_false, not-true}
 use Rattle.kms_model.specs.declared.objects.Kind.{Kind}
 use Rattle.kms_model.specs.declared.objects.Topology.{Topology}
 use Rattle.kms_model.specs.declared.properties.TheConstants.{FB_ID, CRTC_ID, GAMMA_LUT, MODE_ID}
@@ -34,10 +34,6 @@ has_shape prop CrtcName = prop == CRTC_ID
 shapes : list_all (λ p. has_shape p.id p.range) properties ≡ true
 shapes = refl
 
-not-is : (b : Bool) → not b ≡ true → b ≡ false
-not-is true h = sym h
-not-is false h = refl
-
 -- a value of a range is set to one among the range's
 among : (t : Topology) (f : ℕ → Look) (prop : ℕ) (range : Range) (v : Value) → has_shape prop range ≡ true → is_in_range t f prop range v
     ≡ true → range_takes prop range (set_value f prop v) ≡ true
@@ -46,7 +42,8 @@ among t f prop (Numbers low high) (Num n) shape within =
     let b = and_parts (not (prop == MODE_ID)) _ a.1 in
     let c = and_parts (not (prop == GAMMA_LUT)) _ b.1 in
     let d = and_parts (not (prop == CRTC_ID)) (is_kept prop) c.1 in
-    rw (not-is (prop == FB_ID) a.0, not-is (prop == MODE_ID) b.0, not-is (prop == GAMMA_LUT) c.0, not-is (prop == CRTC_ID) d.0, d.1) within
+    rw (not-true (prop == FB_ID) a.0, not-true (prop == MODE_ID) b.0, not-true (prop == GAMMA_LUT) c.0, not-true (prop == CRTC_ID) d.0, d.1)
+    within
 among t f prop (Numbers low high) (Named label) shape within = absurd (cc)
 among t f prop (Numbers low high) (New label) shape within = absurd (cc)
 among t f prop (Numbers low high) (Crtc index) shape within = absurd (cc)
@@ -59,8 +56,8 @@ among t f prop (Thing none) v shape within = elim (cases_Bool (prop == FB_ID)) [
       | inl gamma ↦ rw (no_fb, no_mode, gamma, gamma) refl
       | inr no_gamma ↦ (let rest : (not (prop == CRTC_ID) && not (is_kept prop)) ≡ true = rw (no_fb, no_mode, no_gamma) at shape in
           let parts = and_parts (not (prop == CRTC_ID)) (not (is_kept prop)) rest in
-          let fence : is_kept prop ≡ false = not-is (is_kept prop) parts.1 in
-          rw (no_fb, no_mode, no_gamma, not-is (prop == CRTC_ID) parts.0, fence, fence) refl)
+          let fence : is_kept prop ≡ false = not-true (is_kept prop) parts.1 in
+          rw (no_fb, no_mode, no_gamma, not-true (prop == CRTC_ID) parts.0, fence, fence) refl)
     ]
   ]
 ]

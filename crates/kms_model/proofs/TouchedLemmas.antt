@@ -3,7 +3,7 @@ use Rattle.std.proofs.Common.{◌≡◌, ℕ, ◌+◌, ◌*◌, ◌<◌, ◌≤�
 use Rattle.std.proofs.Common.{refl, sym, ap, ◌∙◌, subst}
 use Rattle.std.specs.Prelude.{◌&&◌, ◌==◌, not, pos, is_none, is_some, nat_lt, if◌then◌else◌}
 use Rattle.std.specs.Ordering.{int_eq}
-use Rattle.std.proofs.lemmas.Bool.{eqb-true, eq-eqb, and_parts, and_from, or_parts, or_from, or_left, cases_Bool, leb-true, ltb-true}
+use Rattle.std.proofs.lemmas.Bool.{eqb-true, eq-eqb, and_parts, and_from, or_parts, or_from, or_left, cases_Bool, ltb-true}
 use Rattle.std.proofs.lemmas.Bool.{not-false, not_from_true, both_ways, false_from_ne_true}
 use Rattle.std.proofs.lemmas.Bool.Decides.{Decides-int_eq}
 use Rattle.kms_model.specs.declared.objects.Kind.{Kind}
@@ -17,7 +17,6 @@ use Rattle.kms_model.specs.declared.scripts.Request.{Request}
 use Rattle.kms_model.specs.declared.states.PlaneState.{PlaneState}
 use Rattle.kms_model.specs.declared.worlds.World.{World}
 use Rattle.kms_model.specs.Firsts.{first_some, number_if}
-use Rattle.kms_model.specs.Script.Words.{between}
 use Rattle.kms_model.specs.Device.Modes.{same_mode}
 use Rattle.kms_model.specs.Device.Objects.{first_id, object_id, count_of, ids_of}
 use Rattle.kms_model.specs.Device.Properties.{keeps_limits}
@@ -33,6 +32,7 @@ use Rattle.kms_model.specs.Request.Checks.{with_ids, is_active, conns_on, plane_
 use Rattle.kms_model.specs.Request.Checks.{clone_refusal_at, route_refusal_at, shown_refusal, shown_refusal_at, event_refusal, late_refusal}
 use Rattle.kms_model.specs.Device.Sound.IsCrtcOrNone.{IsNone, IsCrtc}
 use Rattle.kms_model.specs.Device.Sound.{IsDevice, IsCrtcOrNone, IsSound, empty_request}
+use Rattle.kms_model.proofs.RequestLemmas.{has_few}
 use Rattle.kms_model.proofs.Items.{IsIn, IsObject, ids-in, ids-has, or_else-none, first_some-at, list_any-at, list_any-none, list_any-some}
 use Rattle.kms_model.proofs.Items.{Passes, filter-same}
 use Rattle.kms_model.proofs.AppliedValues.{value-apply_unset}
@@ -55,14 +55,8 @@ pub record HasFewObjects (t : Topology) : Type 0 where
 
 pub few_objects : (t : Topology) → IsDevice t → HasFewObjects t
 few_objects t device =
-    let limits = (and_parts (keeps_limits t) _ device.legal).0 in
-    let crtcs = and_parts (between 1 4 t.crtcs) _ limits in
-    let rest = and_parts (between 1 16 (length t.planes)) (between 1 8 (length t.conns)) crtcs.1 in
-    record {
-      crtcs = leb-true t.crtcs 4 (and_parts _ _ crtcs.0).1;
-      planes = leb-true (length t.planes) 16 (and_parts _ _ rest.0).1;
-      conns = leb-true (length t.conns) 8 (and_parts _ _ rest.1).1;
-    }
+    let few = has_few t (and_parts (keeps_limits t) _ device.legal).0 in
+    record { crtcs = few.crtcs; planes = few.planes; conns = few.conns }
 
 pub few_of : (t : Topology) (k : Kind) → HasFewObjects t → count_of t k ≤ 16
 few_of t kind.Crtc few = omega (arith, few.crtcs)

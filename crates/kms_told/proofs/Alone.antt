@@ -1,8 +1,8 @@
 -- Replies that enter no journal: each is the device's at the end of the journal so far, or a late refusal, or tells of events.
-use Rattle.std.proofs.Common.{◌≡◌, ℕ, ◌+◌, ◌*◌, ◌%◌, Bool, true, false, not, ◌&&◌, ◌||◌, ◌==◌, List, length, Option, Some, None, refl, sym}
-use Rattle.std.proofs.Common.{ap, ◌∙◌, subst, arith, inl, inr, ◌⊎◌, ⊎_elim}
+use Rattle.std.proofs.Common.{◌≡◌, ℕ, ◌+◌, ◌*◌, ◌%◌, Bool, true, false, not, ◌&&◌, ◌==◌, List, length, Option, Some, None, refl, sym}
+use Rattle.std.proofs.Common.{ap, ◌∙◌, subst, arith, inl, inr, ◌⊎◌}
 use Rattle.std.specs.Prelude.{is_none, is_some, nat_le, if◌then◌else◌}
-use Rattle.std.proofs.lemmas.Bool.{and_from, and_parts, cond-false, cond-true, eq-eqb, false≢true, le-leb, not-true, or_cases}
+use Rattle.std.proofs.lemmas.Bool.{and_from, and_parts, cond-false, cond-true, eq-eqb, false≢true, le-leb}
 use Rattle.std.proofs.lemmas.Nat.{mod-mul-add}
 use Rattle.kms_model.specs.declared.replies.Reply.{Reply}
 use Rattle.kms_model.specs.declared.replies.Reply.TheVariants as reply
@@ -16,18 +16,19 @@ use Rattle.kms_model.specs.Device.Serial.{Entry, is_accepted, serial}
 use Rattle.kms_model.specs.Machine.Commits.{has_number, lockable, previous}
 use Rattle.kms_model.specs.Machine.Effects.{busy_reply, commit_numbered, refusal_reply}
 use Rattle.kms_model.specs.Machine.State.{Commit, Machine, has_value, reserved_at, unread_at}
-use Rattle.kms_model.specs.Machine.Steps.{first_pending, holds_touched, is_busy, is_making, is_pending, is_refused_late, is_signal, is_wait}
+use Rattle.kms_model.specs.Machine.Steps.{first_pending, is_making, is_pending, is_signal, is_wait}
 use Rattle.kms_model.specs.Machine.Steps.{lacks_space, may_refuse, may_test, space_used}
 use Rattle.kms_model.specs.Report.RightAnswers.{commits_of, is_refused_late_at, is_told, last_touch, may_be_refused_late}
 use Rattle.kms_model.specs.Request.Flags.{is_nonblock, is_test, wants_event}
 use Rattle.kms_model.specs.Request.Touched.{touches}
-use Rattle.kms_model.specs.Request.Verdict.{early_in, late_in, verdict}
+use Rattle.kms_model.specs.Request.Verdict.{verdict}
+use Rattle.kms_model.proofs.Guards.{IsRefusing, refuse_guards, test_guards}
+use Rattle.kms_model.proofs.Guards.IsRefusing.{Busy, Early, Full, Late}
 use Rattle.kms_model.proofs.Items.{list_any-has}
 use Rattle.kms_model.proofs.SoundKept.{accepted-parts}
 use Rattle.kms_model.proofs.ThingLemmas.{find-holds, find-in}
 use Rattle.kms_laws.proofs.Basics.{both_bools}
 use Rattle.kms_laws.proofs.EventRoom.{HasRoom}
-use Rattle.kms_laws.proofs.Steps.{none-is}
 
 -- the reply of the device of one thread to a command after a journal
 abbrev pub executed_after : Script → List Entry → ℕ → Command → Reply
@@ -74,21 +75,6 @@ multiple : (n : ℕ) → (32 * n % 32 == 0) ≡ true
 multiple n = let e : 32 * n ≡ n * 32 + 0 = omega arith in eq-eqb (32 * n % 32) 0 (ap (λ k. k % 32) e ∙ mod-mul-add n 32 0 (omega arith))
 
 module _ (s : Script) (m : Machine) (client : ℕ) (r : Request) where
-  -- why an accepted request may be refused
-  refused-late : may_refuse s.topology m client r ≡ true → verdict s.topology m.device.world r ≡ None
-      → is_refused_late s.topology m client r ≡ true
-  unfolding may_refuse
-  refused-late h none =
-      let parts = accepted-parts s.topology m.device.world r none in
-      ⊎_elim
-      (λ early. absurd (both_bools _ early (ap is_some parts.first_none)))
-      (λ rest.
-      ⊎_elim
-      (λ late. absurd (both_bools _ late (ap is_some parts.second_none)))
-      (λ late. late)
-      (or_cases (is_some (late_in s.topology m.device.world r)) _ (and_parts (holds_touched s.topology m client r) _ rest).1))
-      (or_cases (is_some (early_in s.topology m.device.world r)) _ h)
-
   late-space : (journal : List Entry) → HasRoom m.events → lacks_space s.topology m client r ≡ true
       → may_be_refused_late s journal m.device.world r (reply.Space (space_used m.events client)) ≡ true
   unfolding lacks_space
@@ -174,29 +160,28 @@ module _ (s : Script) (m : Machine) (client : ℕ) (r : Request) where
         busy None e some nonblock = absurd (false≢true some)
         busy (Some object) e some nonblock = late-busy journal object commits nonblock e
 
-        without : (b : Bool) → lacks_space s.topology m client r ≡ b → (lacks_space s.topology m client r || is_busy s.topology m r) ≡ true
-            → may_be_refused_late s journal m.device.world r
+        without : (b : Bool) → lacks_space s.topology m client r ≡ b → is_nonblock r.flags ≡ true → is_some (first_pending s.topology m r)
+            ≡ true → may_be_refused_late s journal m.device.world r
             (if b then reply.Space (space_used m.events client) else busy_reply s.topology m (first_pending s.topology m r)) ≡ true
-        without true space late = late-space journal room space
-        without false space late =
-            ⊎_elim
-            (λ lacks. absurd (both_bools _ lacks space))
-            (λ b. let two = and_parts (is_nonblock r.flags) _ b in busy (first_pending s.topology m r) refl two.1 two.0)
-            (or_cases (lacks_space s.topology m client r) _ late)
+        without true space nonblock pending = late-space journal room space
+        without false space nonblock pending = busy (first_pending s.topology m r) refl pending nonblock
+
+        accepted : verdict s.topology m.device.world r ≡ None → IsRefusing s.topology m client r
+            → StandsAlone s journal client (refusal_reply s.topology m client r None) (Some (command.Atomic r))
+        accepted e (Early early) =
+            absurd (both_bools _ early (ap is_some (accepted-parts s.topology m.device.world r e).first_none))
+        accepted e (Late held late) =
+            absurd (both_bools _ late (ap is_some (accepted-parts s.topology m.device.world r e).second_none))
+        accepted e (Full held no_test full) = inr (late-at _ e no_test (rw full (late-space journal room full)))
+        accepted e (Busy held no_test nonblock pending) =
+            inr (late-at _ e no_test (without (lacks_space s.topology m client r) refl nonblock pending))
 
         with_verdict : (o : Option ℕ) → verdict s.topology m.device.world r ≡ o
             → StandsAlone s journal client (refusal_reply s.topology m client r o) (Some (command.Atomic r))
         with_verdict (Some n) e = inl (record { reply_is = refused-now n e ∙ executed-now (command.Atomic r); denied = refl })
-        with_verdict None e =
-            let two = and_parts (not (is_test r.flags)) _ (refused-late h e) in
-            inr (late-at _ e (not-true (is_test r.flags) two.0) (without (lacks_space s.topology m client r) refl two.1))
+        with_verdict None e = accepted e (refuse_guards s.topology m client r h)
 
     pub tested-alone : may_test s.topology m client r ≡ true → StandsAlone s journal client reply.Tested (Some (command.Atomic r))
-    unfolding may_test
     tested-alone h =
-        let one = and_parts (is_test r.flags) _ h in
-        let two = and_parts (holds_touched s.topology m client r) _ one.1 in
-        inl (record {
-          reply_is = tested-now (none-is (verdict s.topology m.device.world r) two.1) one.0 ∙ executed-now (command.Atomic r);
-          denied = refl;
-        })
+        let g = test_guards s.topology m client r h in
+        inl (record { reply_is = tested-now g.accepted g.test ∙ executed-now (command.Atomic r); denied = refl })

@@ -2,8 +2,7 @@
 -- enters it where it is accepted.
 use Rattle.std.proofs.Common.{◌≡◌, ℕ, suc, ◌+◌, ◌<◌, Bool, true, false, List, [], ◌∷◌, length, Option, Some, refl, sym, ap, ◌∙◌, subst}
 use Rattle.std.proofs.Common.{arith, inl, inr, ◌⊎◌}
-use Rattle.std.specs.Prelude.{not, reverse}
-use Rattle.std.proofs.lemmas.Bool.{and_parts, not-true}
+use Rattle.std.specs.Prelude.{reverse}
 use Rattle.kms_model.specs.declared.replies.Answered.{Answered}
 use Rattle.kms_model.specs.declared.replies.Reply.{Reply}
 use Rattle.kms_model.specs.declared.replies.Reply.TheVariants as reply
@@ -18,10 +17,11 @@ use Rattle.kms_model.specs.Headline.{entry_answered}
 use Rattle.kms_model.specs.Machine.Effects.{answers, goes_on, next, refusal_reply, signals}
 use Rattle.kms_model.specs.Machine.Histories.{at, is_history, legal}
 use Rattle.kms_model.specs.Machine.State.{Machine, command_at, doing_at, first_machine, place_at}
-use Rattle.kms_model.specs.Machine.Steps.{is_atomic, is_making, is_signal, is_wait, may_swap}
+use Rattle.kms_model.specs.Machine.Steps.{is_making, is_signal, is_wait, may_swap}
 use Rattle.kms_model.specs.Request.Verdict.{verdict}
+use Rattle.kms_model.proofs.Guards.{making_guards, swap_guards}
 use Rattle.kms_model.proofs.Items.{IsIn}
-use Rattle.kms_laws.proofs.EachStep.{Carries, by_fence, by_two, each_step, locks_leave, made_as, swap-found, swapped_as, tails_leave}
+use Rattle.kms_laws.proofs.EachStep.{Carries, by_fence, by_two, each_step, locks_leave, made_as, swapped_as, tails_leave}
 use Rattle.kms_laws.proofs.EventRoom.{HasRoom}
 use Rattle.kms_laws.proofs.Fitting.{idle-busy, taking-busy}
 use Rattle.kms_laws.proofs.SmallNumbers.{Counted, along_counted, first_counted, step_counted}
@@ -115,10 +115,8 @@ module _ (s : Script) (m : Machine) (H : Holds s m) (C : HasCommits s m) (room :
       → (b : Bool) → is_accepted (execute s.topology m.device.world client c).reply ≡ b
       → HasBuilt s (made_as b m client (execute s.topology m.device.world client c))
   makes_case client c e making none true eb =
-      let one = and_parts (not (is_atomic c)) _ making in
-      let two = and_parts (not (is_signal c)) _ one.1 in
-      enters client (execute s.topology m.device.world client c).reply c none e (not-true (is_wait c) two.1)
-      (not-true (is_signal c) two.0) refl eb
+      let g = making_guards c making in
+      enters client (execute s.topology m.device.world client c).reply c none e g.no_wait g.no_signal refl eb
   makes_case client c e making none false eb =
       stays client (execute s.topology m.device.world client c).reply c none e
       (denied-alone s (reverse m.records.journal) client (execute s.topology m.device.world client c).reply c making
@@ -129,7 +127,7 @@ module _ (s : Script) (m : Machine) (H : Holds s m) (C : HasCommits s m) (room :
       → Built s (answer_now m client (reply.Commit (length m.device.commits)) ∷ m.records.replies)
       (record { client = client; command = (place_at m client).command } ∷ m.records.journal)
   swaps_case client r e none may =
-      let found = swap-found s.topology m client r may in
+      let found = swap_guards s.topology m client r may in
       enters client (reply.Commit (length m.device.commits)) (command.Atomic r) none e refl refl
       (ap (λ k. reply.Commit k) (sym H.present.count) ∙ committed-now s m client r found.accepted found.no_test) refl
 

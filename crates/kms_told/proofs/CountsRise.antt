@@ -24,6 +24,7 @@ use Rattle.kms_model.specs.Machine.Histories.{at, is_history, legal}
 use Rattle.kms_model.specs.Machine.Registers.{crtc_words, gamma_in_words, mode_in_words, plane_in, read}
 use Rattle.kms_model.specs.Machine.State.{Commit, Machine, count_at, first_machine}
 use Rattle.kms_model.specs.Report.Right.{may_count}
+use Rattle.kms_model.proofs.Guards.{IsFlush}
 use Rattle.kms_model.proofs.Items.{IsIn}
 use Rattle.kms_laws.proofs.Basics.{pair_now, read_other, read_same}
 use Rattle.kms_laws.proofs.EachStep.{Carries, by_bool, by_fence, by_latch, by_two, each_step, latched_as, locks_leave, made_as, swapped_as}
@@ -31,7 +32,7 @@ use Rattle.kms_laws.proofs.Invariants.{crtc_after, picture_at, plane_after}
 use Rattle.kms_laws.proofs.Latching.{latches_commit}
 use Rattle.kms_laws.proofs.Objects.{crtc_index}
 use Rattle.kms_laws.proofs.Present.{reverse_more}
-use Rattle.kms_laws.proofs.Steps.{Holds, IsFlush, IsPlainScript, along, first_kept, flushed_at, flushed_holds, fresh-unlatched, step_kept}
+use Rattle.kms_laws.proofs.Steps.{Holds, IsPlainScript, along, first_kept, flushed_at, flushed_holds, fresh-unlatched, step_kept}
 use Rattle.kms_laws.proofs.Traversal.{latch_of}
 use Rattle.kms_told.proofs.Items.{AllPass, last-push, pass-append}
 

@@ -2,22 +2,20 @@
 use Rattle.std.proofs.Common.{◌≡◌, ℕ, zero, suc, ◌+◌, ◌<◌, ◌≤◌, true, List, [], ◌∷◌, length, map, Some, None, refl, sym, ap, ◌∙◌, arith}
 use Rattle.std.proofs.Common.{⊎_elim}
 use Rattle.std.specs.Prelude.{slice_get}
-use Rattle.std.specs.List.{list_all, range_with_len}
+use Rattle.std.specs.List.{range_with_len}
 use Rattle.std.specs.Option.{option_and_then}
-use Rattle.std.proofs.lemmas.Bool.{and_parts}
 use Rattle.kms_model.specs.declared.replies.Step.{Step}
 use Rattle.kms_model.specs.declared.scripts.Command.{Command}
 use Rattle.kms_model.specs.declared.scripts.Script.{Script}
 use Rattle.kms_model.specs.Device.Serial.{Entry, from_one}
-use Rattle.kms_model.specs.Machine.Commits.{is_cleaned}
-use Rattle.kms_model.specs.Machine.Histories.{at, client_numbers, commit_numbers, is_at_end, is_drained, is_history}
-use Rattle.kms_model.specs.Machine.State.{command_at, doing_at, place_at}
-use Rattle.kms_model.specs.Machine.Steps.{is_idle}
+use Rattle.kms_model.specs.Machine.Histories.{at, is_drained, is_history}
+use Rattle.kms_model.specs.Machine.State.{place_at}
 use Rattle.kms_model.specs.Report.Right.{commands_from}
-use Rattle.kms_model.proofs.Items.{IsIn, list_all-at}
+use Rattle.kms_model.proofs.Guards.{drained_guards}
+use Rattle.kms_model.proofs.Items.{IsIn}
 use Rattle.kms_laws.proofs.Basics.{in_either}
 use Rattle.kms_laws.proofs.Headlines.{range-in}
-use Rattle.kms_laws.proofs.Steps.{IsPlainScript, none-is}
+use Rattle.kms_laws.proofs.Steps.{IsPlainScript}
 use Rattle.kms_told.proofs.Built.{reached}
 use Rattle.kms_told.proofs.Passed.{IsAnswered}
 
@@ -77,19 +75,13 @@ in-range (y ∷ ys) (suc n) x e = let l = in-range ys n x e in omega (arith, l)
 -- Drained histories
 
 module _ (s : Script) (h : List Step) (plain : IsPlainScript s) (is : is_history s h ≡ true) (drained : is_drained s (at s h) ≡ true) where
-  all-at-end : list_all (is_at_end s (at s h)) (client_numbers s) ≡ true
-  unfolding is_drained
-  all-at-end = (and_parts (list_all (is_at_end s (at s h)) (client_numbers s))
-      (list_all (is_cleaned (at s h).device) (commit_numbers (at s h))) drained).0
-
   -- where a client is at its end, it is past all of its commands
   past-all : (client : ℕ) (commands : List Command) → 1 ≤ client → client < 1 + length s.clients → from_one s.clients client ≡ Some commands
       → length commands < (place_at (at s h) client).command
   past-all client commands low high found =
-      let end = list_all-at (is_at_end s (at s h)) (client_numbers s) client all-at-end (range-in 1 (length s.clients) client low high) in
-      let none = none-is (command_at s (at s h) client) (and_parts (is_idle (doing_at (at s h) client)) _ end).1 in
+      let end = (drained_guards s (at s h) drained).at_end client (range-in 1 (length s.clients) client low high) in
       beyond commands (place_at (at s h) client).command ((reached s h plain is).counted.sizes.places_stand.low client)
-      (sym (ap (λ o. option_and_then (λ (cs : List Command). from_one cs (place_at (at s h) client).command) o) found) ∙ none)
+      (sym (ap (λ o. option_and_then (λ (cs : List Command). from_one cs (place_at (at s h) client).command) o) found) ∙ end.ended)
 
   pub all-answered : (e : Entry) → IsIn e (commands_from 1 s.clients) → IsAnswered (at s h).records.replies e.client e.command
   all-answered e there =

@@ -40,6 +40,7 @@ use Rattle.kms_model.specs.Request.Flags.{is_test}
 use Rattle.kms_model.specs.Request.Touched.{out_fence_label}
 use Rattle.kms_model.specs.Request.Verdict.{verdict}
 use Rattle.kms_model.specs.Script.Spelling.{name_word}
+use Rattle.kms_model.proofs.Guards.{legal_parts}
 use Rattle.kms_model.proofs.CrtcLemmas.{all_in}
 use Rattle.kms_model.proofs.Facts.{by_recursion-at}
 use Rattle.kms_model.proofs.FramedLemmas.{closed_same}
@@ -203,9 +204,9 @@ run_named : (s : Script) (steps : List Step) (m : Machine) → are_legal s m ste
 unfolding run_steps are_legal
 run_named s [] m h = named-self m.device.world.things
 run_named s (step ∷ steps) m h =
-    let both = and_parts (legal s m step) _ h in
+    let all = legal_parts s m step steps h in
     named-trans m.device.world.things (next s m step).device.world.things (run_steps s (next s m step) steps).device.world.things
-    (step_named s m step both.0) (run_named s steps (next s m step) both.1)
+    (step_named s m step all.first) (run_named s steps (next s m step) all.rest)
 
 -- What was freed
 
@@ -234,16 +235,16 @@ pub was-freed : (s : Script) → IsPlainScript s → (steps : List Step) (m : Ma
 unfolding freed_from run_steps are_legal
 was-freed s plain [] m H h y is = absurd is
 was-freed s plain (step ∷ steps) m H h y is =
-    let both = and_parts (legal s m step) _ h in
+    let all = legal_parts s m step steps h in
     ⊎_elim
     (λ (now : IsIn y (freed_by_step s m step)).
     let one = freed-here s m step H y now in
     record {
       there = named-trans m.device.world.things (next s m step).device.world.things (run_steps s (next s m step) steps).device.world.things
-          (step_named s m step both.0) (run_named s steps (next s m step) both.1) y.id y one.0;
+          (step_named s m step all.first) (run_named s steps (next s m step) all.rest) y.id y one.0;
       framebuffer = one.1;
     })
-    (λ later. was-freed s plain steps (next s m step) (step_kept s m step plain H both.0) both.1 y later)
+    (λ later. was-freed s plain steps (next s m step) (step_kept s m step plain H all.first) all.rest y later)
     (in_either (freed_by_step s m step) (freed_from s (next s m step) steps) y is)
 
 -- Lines

@@ -19,10 +19,11 @@ use Rattle.kms_model.specs.Machine.State.{Machine, doing_at, first_machine, plac
 use Rattle.kms_model.specs.Machine.Steps.{ticket_of}
 use Rattle.kms_model.specs.Request.Sets.{obj_id}
 use Rattle.kms_model.specs.Request.Verdict.{verdict}
+use Rattle.kms_model.proofs.Guards.{lock_guards}
 use Rattle.kms_model.proofs.Items.{IsIn}
 use Rattle.kms_laws.proofs.Basics.{read_other, read_same}
 use Rattle.kms_laws.proofs.EachStep.{Carries, by_bool, by_fence, by_two, each_step, made_as, swapped_as, tails_leave}
-use Rattle.kms_laws.proofs.Ended.{first_place, lock-taking}
+use Rattle.kms_laws.proofs.Ended.{first_place}
 use Rattle.kms_laws.proofs.Fitting.{back-busy, contended-busy, idle-busy, returning-busy, taking-busy}
 use Rattle.kms_laws.proofs.Sizes.{answered, ended_at, place_of}
 
@@ -151,7 +152,7 @@ module _ (s : Script) (m : Machine) (all : HasPassed m) where
       takes = λ client kind index is_there lock free. all;
       meets = λ client kind index holder is_there lock held.
           keeps_on client (doing.MustBackOff (record { 0 = ticket_of (doing_at m client) }) (obj_id (object_id kind index)))
-          (taking-busy (doing_at m client) (lock-taking s m client (object_id kind index) lock)).1 refl;
+          (taking-busy (doing_at m client) (lock_guards s m client (object_id kind index) lock).reaching.taking).1 refl;
       backs = λ client back. let b = back-busy (doing_at m client) back in keeps_on client (backed_off (doing_at m client)) b.0.1 b.1.1;
       relocks = λ client object asked free.
           keeps_on client (doing.Taking (record { 0 = ticket_of (doing_at m client) }))

@@ -21,7 +21,6 @@ use Rattle.kms_model.specs.declared.worlds.Thing.{Thing}
 use Rattle.kms_model.specs.Device.Objects.{indices_of}
 use Rattle.kms_model.specs.Device.Serial.{Entry}
 use Rattle.kms_model.specs.Frames.FrameBytes.{frame_bytes}
-use Rattle.kms_model.specs.Frames.Ppm.{ppm}
 use Rattle.kms_model.specs.Machine.Framebuffers.{freed}
 use Rattle.kms_model.specs.Machine.Histories.{at, client_numbers, is_dead, is_drained, journal, latched, read_by, stalled_on}
 use Rattle.kms_model.specs.Machine.State.{Machine}

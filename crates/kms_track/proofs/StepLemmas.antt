@@ -1,28 +1,28 @@
 -- A tracker that follows each step of a machine stays in step with it.
-use Rattle.std.proofs.Common.{◌≡◌, ℕ, ◌<◌, ◌≤◌, List, [], ◌∷◌, length, Bool, true, false, Some, None, inl, inr, arith, refl, sym, ap, ◌∙◌}
+use Rattle.std.proofs.Common.{◌≡◌, ℕ, ◌<◌, ◌≤◌, List, [], ◌∷◌, length, Bool, true, false, Some, None, inl, inr, arith, refl, sym, ◌∙◌}
 use Rattle.std.proofs.Common.{subst}
-use Rattle.std.specs.Prelude.{◌&&◌, ◌||◌, find, not, nat_lt, if◌then◌else◌}
-use Rattle.std.proofs.lemmas.Bool.{and_parts, cases_lt, false≢true, ltb-true, ne_eqb}
+use Rattle.std.specs.Prelude.{◌||◌, not, if◌then◌else◌}
+use Rattle.std.proofs.lemmas.Bool.{cases_lt, false≢true, ne_eqb}
 use Rattle.kms_model.specs.declared.objects.Kind.{Kind}
 use Rattle.kms_model.specs.declared.objects.Kind.TheVariants.{Crtc}
 use Rattle.kms_model.specs.declared.objects.Topology.{Topology}
 use Rattle.kms_model.specs.declared.replies.Step.{Step}
-use Rattle.kms_model.specs.declared.replies.Step.TheVariants.{Begin, Lock, BackOff, Relock, Refuse, Test, Swap, Make, Signal, Claim, Write}
-use Rattle.kms_model.specs.declared.replies.Step.TheVariants.{Flush, HwDone, Vblank, Cleanup, Read, Return, Stall}
+use Rattle.kms_model.specs.declared.replies.Step.TheVariants.{Swap, Claim, Write}
+use Rattle.kms_model.specs.declared.replies.Step.TheVariants.{Flush, HwDone, Vblank, Cleanup}
 use Rattle.kms_model.specs.declared.runs.Latch.{Latch}
 use Rattle.kms_model.specs.declared.scripts.Request.{Request}
 use Rattle.kms_model.specs.declared.scripts.Script.{Script}
 use Rattle.kms_model.specs.declared.states.Checked.{Checked}
-use Rattle.kms_model.specs.Device.Objects.{exists, ids_of, index_of, is_id_of, object_id}
-use Rattle.kms_model.specs.Machine.Commits.{commit_at, commit_concerns, commit_names, has_flipped, has_latched, has_pair, is_all_latched}
-use Rattle.kms_model.specs.Machine.Commits.{is_all_written, is_claimed, is_hw_done, new_crtc, no_commit}
+use Rattle.kms_model.specs.Device.Objects.{ids_of, index_of, is_id_of, object_id}
+use Rattle.kms_model.specs.Machine.Commits.{commit_at, commit_concerns, commit_names, has_flipped, has_latched, is_all_latched}
+use Rattle.kms_model.specs.Machine.Commits.{is_claimed, is_hw_done, new_crtc, no_commit}
 use Rattle.kms_model.specs.Machine.Effects.{counts_vblank, latches, latches_picture, next}
 use Rattle.kms_model.specs.Machine.Histories.{legal}
 use Rattle.kms_model.specs.Machine.Registers.{decoded_picture, latched_registers}
-use Rattle.kms_model.specs.Machine.State.{Commit, DeviceState, Machine, go_at, has_value, request_at}
-use Rattle.kms_model.specs.Machine.Steps.{may, may_claim, next_flush}
+use Rattle.kms_model.specs.Machine.State.{Commit, Machine, go_at, request_at}
 use Rattle.kms_model.specs.Things.Tables.{without_id}
-use Rattle.kms_model.proofs.Facts.{and_off, implied, implied_from}
+use Rattle.kms_model.proofs.Guards.{legal_guards}
+use Rattle.kms_model.proofs.Facts.{implied, implied_from}
 use Rattle.kms_model.proofs.Items.{list_all-at, list_all-from}
 use Rattle.kms_model.proofs.KindsOfIds.{index_of-object}
 use Rattle.kms_signal.specs.StepLaws.{leaves_commits, new_commit}
@@ -80,51 +80,21 @@ names_none : (t : Topology) (cs : List Commit) (k crtc : ℕ) → length cs ≤ 
 unfolding commit_names
 names_none t cs k crtc above = rw (none_at t cs k above) refl
 
-finds_none : (p : ℕ → Bool) (xs : List ℕ) → ((x : ℕ) → p x ≡ false) → find p xs ≡ None
-finds_none p [] none = refl
-finds_none p (x ∷ xs) none = rw (none x) (finds_none p xs none)
-
-flushes_none : (t : Topology) (d : DeviceState) (k : ℕ) → length d.commits ≤ k → next_flush t d k ≡ None
-unfolding next_flush
-flushes_none t d k above = finds_none (λ crtc. commit_names t d.commits k crtc && not (has_pair d.marks.flushed k crtc)) (ids_of t Crtc)
-    (λ crtc. and_off _ _ (names_none t d.commits k crtc above))
-
 pub legal_below : (s : Script) (m : Machine) (step : Step) (k : ℕ) (v : Tracking) → commit_of_tail_step step ≡ Some k
     → legal s m step ≡ true → IsInStep s.topology m v → k < length m.device.commits
-unfolding legal may may_claim
-legal_below s m (Claim n) k v of is stands =
-    let same : n ≡ k = cc in
-    rw (← same) (ltb-true n (length m.device.commits)
-    (and_parts (nat_lt n (length m.device.commits)) _ (and_parts (not m.stalled) _ is).1).0)
+legal_below s m (Claim n) k v of is stands = let same : n ≡ k = cc in rw (← same) (legal_guards s m (Claim n) is).within
 legal_below s m (Write n kind index) k v of is stands =
-    let same : n ≡ k = cc in rw (← same)
-    (claimed_below s.topology m n v stands (and_parts (is_claimed m.device n) _ (and_parts (not m.stalled) _ is).1).0)
+    let same : n ≡ k = cc in
+    rw (← same) (claimed_below s.topology m n v stands (legal_guards s m (Write n kind index) is).write.claimed)
 legal_below s m (Flush n kind index) k v of is stands =
     let same : n ≡ k = cc in
-    let flushes : has_value (object_id kind index) (next_flush s.topology m.device n) ≡ true =
-    (and_parts (exists s.topology kind index) _
-    (and_parts (is_all_written s.topology m.device n) _ (and_parts (not m.stalled) _ is).1).1).1 in
-    rw (← same) (where_below s.topology m n v stands (has_value (object_id kind index) (next_flush s.topology m.device n)) flushes
-    (λ above. ap (has_value (object_id kind index)) (flushes_none s.topology m.device n above)))
+    rw (← same) (where_below s.topology m n v stands (commit_names s.topology m.device.commits n (object_id kind index))
+    (legal_guards s m (Flush n kind index) is).flush.names (names_none s.topology m.device.commits n (object_id kind index)))
 legal_below s m (HwDone n) k v of is stands =
-    let same : n ≡ k = cc in rw (← same)
-    (claimed_below s.topology m n v stands (and_parts (is_claimed m.device n) _ (and_parts (not m.stalled) _ is).1).0)
+    let same : n ≡ k = cc in rw (← same) (claimed_below s.topology m n v stands (legal_guards s m (HwDone n) is).claimed)
 legal_below s m (Cleanup n) k v of is stands =
-    let same : n ≡ k = cc in rw (← same)
-    (done_below s.topology m n v stands (and_parts (is_hw_done m.device n) _ (and_parts (not m.stalled) _ is).1).0)
-legal_below s m (Begin client) k v of is stands = absurd cc
-legal_below s m (Lock client kind index) k v of is stands = absurd cc
-legal_below s m (BackOff client) k v of is stands = absurd cc
-legal_below s m (Relock client) k v of is stands = absurd cc
-legal_below s m (Refuse client) k v of is stands = absurd cc
-legal_below s m (Test client) k v of is stands = absurd cc
-legal_below s m (Swap client) k v of is stands = absurd cc
-legal_below s m (Make client) k v of is stands = absurd cc
-legal_below s m (Signal client) k v of is stands = absurd cc
-legal_below s m (Vblank kind index) k v of is stands = absurd cc
-legal_below s m (Read client) k v of is stands = absurd cc
-legal_below s m (Return client) k v of is stands = absurd cc
-legal_below s m Stall k v of is stands = absurd cc
+    let same : n ≡ k = cc in rw (← same) (done_below s.topology m n v stands (legal_guards s m (Cleanup n) is).done)
+legal_below s m step k v of is stands = absurd cc
 
 -- Tails
 
@@ -239,10 +209,10 @@ pub cleanup_follows : (s : Script) (m : Machine) (k : ℕ) (v w : Tracking) → 
     → HasNames s.topology m.device → IsInStep s.topology m v
     → w.count ≡ v.count → w.lasts ≡ v.lasts → w.tails.slots ≡ without_id v.tails.slots k
     → IsInStep s.topology (next s m (Cleanup k)) w
-unfolding next legal may
+unfolding next
 cleanup_follows s m k v w is names stands count lasts slots =
-    let parts = and_parts (is_hw_done m.device k) _ (and_parts (not m.stalled) _ is).1 in
-    let within : k < length m.device.commits = done_below s.topology m k v stands parts.0 in
+    let g = legal_guards s m (Cleanup k) is in
+    let within : k < length m.device.commits = done_below s.topology m k v stands g.done in
     cleaned_stands s.topology m.device.commits m.device.marks m.records.latches v k within stands w
-    (over_of s.topology m k within parts.0 (and_parts (is_all_latched s.topology m.device m.records.latches k) _ parts.1).0 names)
+    (over_of s.topology m k within g.done g.latched names)
     count lasts slots
