@@ -1,8 +1,8 @@
 -- What legality tells of the calls that do a step.
 use Rattle.std.proofs.Common.{◌≡◌, ℕ, ◌<◌, ◌≤◌, Bool, true, false, [], ◌∷◌, length, Option, Some, None, inl, inr, refl, sym, ap, ◌∙◌, subst}
 use Rattle.std.proofs.Common.{arith}
-use Rattle.std.specs.Prelude.{not, ◌==◌, is_none, is_some, nat_lt, if◌then◌else◌}
-use Rattle.std.proofs.lemmas.Bool.{and_from, and_parts, cases_lt, eqb-true, false≢true, ltb-true, not-true}
+use Rattle.std.specs.Prelude.{not, ◌==◌, is_some, nat_lt, if◌then◌else◌}
+use Rattle.std.proofs.lemmas.Bool.{and_from, cases_lt, eqb-true, false≢true, ltb-true}
 use Rattle.kms_model.specs.declared.objects.Kind.{Kind}
 use Rattle.kms_model.specs.declared.objects.Kind.TheVariants.{Conn, Crtc, Enc, Plane}
 use Rattle.kms_model.specs.declared.objects.ObjId.{ObjId}
@@ -15,13 +15,14 @@ use Rattle.kms_model.specs.declared.runs.Doing.{Doing}
 use Rattle.kms_model.specs.declared.runs.Doing.TheVariants as doing
 use Rattle.kms_model.specs.declared.runs.Place.{Place}
 use Rattle.kms_model.specs.Device.Objects.{count_of, exists, first_id, index_of, kind_of, object_id}
-use Rattle.kms_model.specs.Machine.Commits.{is_all_latched, is_all_written, is_claimed, is_cleaned, is_hw_done}
+use Rattle.kms_model.specs.Machine.Commits.{is_hw_done}
 use Rattle.kms_model.specs.Machine.Histories.{is_history, legal}
 use Rattle.kms_model.specs.Machine.State.{doing_at, holder_at, reserved_at, unread_at}
-use Rattle.kms_model.specs.Machine.Steps.{contended, idle_at, is_crtc_of, is_free_for, is_free_or_older, is_lockable, is_taking, is_wait}
-use Rattle.kms_model.specs.Machine.Steps.{may, may_lock, must_back_off, next_flush, returning_of, taking_at, ticket_of}
+use Rattle.kms_model.specs.Machine.Steps.{contended, is_free_or_older, is_lockable, is_taking, is_wait}
+use Rattle.kms_model.specs.Machine.Steps.{must_back_off, returning_of, taking_at, ticket_of}
 use Rattle.kms_model.specs.Request.Reach.{reaches}
 use Rattle.kms_model.specs.Script.WellFormed.{IsWellFormed}
+use Rattle.kms_model.proofs.Guards.{Guards, IsRelocking, idle_from, legal-going, legal_guards, taking_from}
 use Rattle.kms_model.proofs.Items.{IsObject, ids-in}
 use Rattle.kms_model.proofs.KindsOfIds.{index_of-object, kind_of-object}
 use Rattle.kms_model.proofs.TouchedLemmas.{HasFewObjects, few_objects}
@@ -29,8 +30,6 @@ use Rattle.kms_wwlock.specs.InStep.{holder_of_contended, lock_answer, relock_ans
 use Rattle.kms_laws.proofs.Basics.{both_bools}
 use Rattle.kms_laws.proofs.Modes.{plain-from}
 use Rattle.kms_laws.proofs.NeverStuck.{history_facts}
-use Rattle.kms_laws.proofs.Stalled.{legal-going}
-use Rattle.kms_laws.proofs.Steps.{flush-found, value-is}
 use Rattle.kms_wwlock.specs.declared.table.Lock.TheVariants as table
 use Rattle.kms_wwlock.specs.declared.table.Relock.TheVariants as again
 use Rattle.kms_core.specs.Calls.{MayRead, MayReturn, is_over_at, read_reply_at, read_reply, read_step, unless_ended}
@@ -43,8 +42,6 @@ use Rattle.kms_core.specs.Work.{MayCleanUp, MayWrite, is_commit_over, write_step
 use Rattle.kms_core.proofs.next.ClientSteps.{answered_is, must_not}
 use Rattle.kms_core.proofs.calls.Locking.{steps_of_lock}
 use Rattle.kms_core.proofs.next.Outside.{outside}
-use Rattle.kms_core.proofs.Places.{not_ended}
-use Rattle.kms_core.proofs.next.TailSteps.{crtc_kind}
 use Rattle.kms_core.proofs.next.Taken.{lockable_exists}
 
 -- Objects of the device
@@ -69,15 +66,15 @@ id_of t id kind index few there is =
     record { kind_is = k; index_is = ap index_of is ∙ index_of-object kind index low; is_id = rw k (omega (arith, is)) }
 
 module _ (v : Run) where
-  -- Clients
+  guards : (x : Step) → IsLegal v x → Guards v.script (machine v) x
+  guards x asked = legal_guards v.script (machine v) x asked
 
-  pub back_off_is : (client : ℕ) → IsLegal v (step.BackOff client) → must_back_off (doing_at (machine v) client) ≡ true
-  unfolding legal may
-  back_off_is client asked = not_ended (machine v).stalled _ asked
+  -- Clients
 
   pub back_off_there : (client : ℕ) (d : Doing) → IsLegal v (step.BackOff client) → d ≡ doing_at (machine v) client
       → ((t : Ticket) (object : ObjId) → d ≡ doing.MustBackOff t object → ⊥) → ⊥
-  back_off_there client d asked is other = both_bools (must_back_off d) (ap must_back_off is ∙ back_off_is client asked) (must_not d other)
+  back_off_there client d asked is other =
+      both_bools (must_back_off d) (ap must_back_off is ∙ guards (step.BackOff client) asked) (must_not d other)
 
   pub back_off_asked : (client : ℕ) (d : Doing) (t : Ticket) (object : ObjId) → IsLegal v (step.BackOff client) → d
       ≡ doing_at (machine v) client → d ≡ doing.MustBackOff t object → MayBackOff v t
@@ -90,10 +87,6 @@ module _ (v : Run) where
             asked;
       }
 
-  relock_is : (client : ℕ) → IsLegal v (step.Relock client) → is_free_for (machine v) (contended (doing_at (machine v) client)) ≡ true
-  unfolding legal may
-  relock_is client asked = not_ended (machine v).stalled _ asked
-
   contended_not : (d : Doing) → ((t : Ticket) (object : ObjId) → d ≡ doing.BackedOff t object → ⊥) → contended d ≡ None
   contended_not doing.Idle other = refl
   contended_not (doing.Taking t) other = refl
@@ -104,7 +97,7 @@ module _ (v : Run) where
   pub relock_there : (client : ℕ) (d : Doing) → IsLegal v (step.Relock client) → d ≡ doing_at (machine v) client
       → ((t : Ticket) (object : ObjId) → d ≡ doing.BackedOff t object → ⊥) → ⊥
   relock_there client d asked is other =
-      false≢true (ap (is_free_for (machine v)) (sym (contended_not d other) ∙ ap contended is) ∙ relock_is client asked)
+      let one = sym (contended_not d other) ∙ ap contended is ∙ (guards (step.Relock client) asked).contends in absurd cc
 
   pub relock_asked : (client : ℕ) (d : Doing) (t : Ticket) (object : ObjId) → IsLegal v (step.Relock client) → d
       ≡ doing_at (machine v) client → d ≡ doing.BackedOff t object → MayRelock v t
@@ -116,24 +109,20 @@ module _ (v : Run) where
         v.script (machine v) (step.Relock client) asked;
   }
 
-  held_none : (h : Option ℕ) → is_none h ≡ true → relock_answer (machine v) h ≡ again.Got
-  held_none None e = refl
-  held_none (Some holder) e = absurd (false≢true e)
+  free_got : (client : ℕ) → IsRelocking (machine v) client
+      → relock_answer (machine v) (holder_of_contended (machine v) (contended (doing_at (machine v) client))) ≡ again.Got
+  free_got client g = ap (λ o. relock_answer (machine v) (holder_of_contended (machine v) o)) g.contends
+      ∙ ap (relock_answer (machine v)) g.free
 
-  free_got : (o : Option ℕ) → is_free_for (machine v) o ≡ true → relock_answer (machine v) (holder_of_contended (machine v) o) ≡ again.Got
-  free_got None e = absurd (false≢true e)
-  free_got (Some object) e = held_none (holder_at (machine v) object) e
-
-  pub relock_done : (client : ℕ) (answer : Locked) → IsLegal v (step.Relock client) → answer ≡ relocked_answer v client
+  pub relock_done : (client : ℕ) {answer : Locked} → IsLegal v (step.Relock client) → answer ≡ relocked_answer v client
       → relock_steps client answer ≡ step.Relock client ∷ []
-  relock_done client answer asked is =
+  relock_done client asked is =
       ap (relock_steps client)
       (is ∙ ap (λ a. relocked_as (present_state v (object_or_zero (contended (doing_at (machine v) client)))) a)
-      (free_got (contended (doing_at (machine v) client)) (relock_is client asked)))
+      (free_got client (guards (step.Relock client) asked)))
 
   pub read_asked : (client : ℕ) → IsLegal v (step.Read client) → MayRead v client
-  unfolding legal may
-  read_asked client asked = (and_parts (idle_at v.script (machine v) client is_wait) _ (not_ended (machine v).stalled _ asked)).0
+  read_asked client asked = idle_from v.script (machine v) client is_wait (guards (step.Read client) asked).waits
 
   stepped : (client : ℕ) (o : Option Reply) → is_some o ≡ true → read_step client o ≡ step.Read client ∷ []
   stepped client None e = absurd (false≢true e)
@@ -141,35 +130,20 @@ module _ (v : Run) where
 
   pub read_done : (client : ℕ) (o : Option Reply) → IsLegal v (step.Read client) → o ≡ read_reply_at v client → read_step client o
       ≡ step.Read client ∷ []
-  unfolding legal may
   read_done client o asked is =
       stepped client o
       (ap (λ (x : Option Reply). is_some x) (is ∙ ap
       (λ b. unless_ended b (read_reply (unread_at (machine v).events client) (reserved_at (machine v).events client)))
       (legal-going v.script (machine v) (step.Read client) asked)) ∙ answered_is (unread_at (machine v).events client)
       (reserved_at (machine v).events client)
-      ∙ (and_parts (idle_at v.script (machine v) client is_wait) _ (not_ended (machine v).stalled _ asked)).1)
+      ∙ (guards (step.Read client) asked).tells)
 
   -- CRTCs
 
   pub vblank_kind : (kind : Kind) (index : ℕ) → IsLegal v (step.Vblank kind index) → kind ≡ Crtc
-  unfolding legal may
-  vblank_kind kind index asked = crtc_kind v.script.topology kind index
-      (and_parts (is_crtc_of v.script.topology kind index) _ (not_ended (machine v).stalled _ asked)).0
+  vblank_kind kind index asked = (guards (step.Vblank kind index) asked).kind_is
 
   -- Locks
-
-  pub lock_is : (client : ℕ) (kind : Kind) (index : ℕ) → IsLegal v (step.Lock client kind index)
-      → (is_lockable v.script.topology kind index ≡ true) × (may_lock v.script (machine v) client (object_id kind index) ≡ true)
-  unfolding legal may
-  lock_is client kind index asked = and_parts (is_lockable v.script.topology kind index) _ (not_ended (machine v).stalled _ asked)
-
-  locks_parts : (client object : ℕ) → may_lock v.script (machine v) client object ≡ true
-      → (taking_at v.script (machine v) client (λ r. reaches v.script.topology (machine v).device.world r object) ≡ true)
-      × (is_free_or_older (machine v) (ticket_of (doing_at (machine v) client)) (holder_at (machine v) object) ≡ true)
-  unfolding may_lock
-  locks_parts client object h = and_parts (taking_at v.script (machine v) client
-      (λ r. reaches v.script.topology (machine v).device.world r object)) _ h
 
   taking_not : (d : Doing) → ((t : Ticket) → d ≡ doing.Taking t → ⊥) → is_taking d ≡ false
   taking_not doing.Idle other = refl
@@ -181,8 +155,7 @@ module _ (v : Run) where
   pub lock_there : (client : ℕ) (kind : Kind) (index : ℕ) (d : Doing) → IsLegal v (step.Lock client kind index) → d
       ≡ doing_at (machine v) client → ((t : Ticket) → d ≡ doing.Taking t → ⊥) → ⊥
   lock_there client kind index d asked is other =
-      let takes = (and_parts (is_taking (doing_at (machine v) client)) _
-      (locks_parts client (object_id kind index) (lock_is client kind index asked).1).0).0 in
+      let takes = (guards (step.Lock client kind index) asked).may_lock.reaching.taking in
       both_bools (is_taking d) (ap is_taking is ∙ takes) (taking_not d other)
 
   own_not : (n : ℕ) → nat_lt n n ≡ true → ⊥
@@ -199,26 +172,22 @@ module _ (v : Run) where
         at own is false o = absurd (false≢true o)
         at false is true o = refl
         at true is true o = absurd (own_not (ticket_of (doing_at (machine v) client))
-            (ap (λ n. nat_lt (ticket_of (doing_at (machine v) n)) (ticket_of (doing_at (machine v) client))) (sym (eqb-true holder client is)) ∙
+            (ap (λ n. nat_lt (ticket_of (doing_at (machine v) n)) (ticket_of (doing_at (machine v) client))) (sym
+            (eqb-true holder client is)) ∙
             e))
 
   pub locked_step : (client : ℕ) (kind : Kind) (index : ℕ) (id : ObjId) (answer : Locked) → IsLegal v (step.Lock client kind index)
       → IsIdOf id kind index → id.0 ≡ object_id kind index → answer ≡ locked_answer v client id
       → lock_steps client id answer ≡ step.Lock client kind index ∷ []
   locked_step client kind index id answer asked named same is =
-      let older = (locks_parts client (object_id kind index) (lock_is client kind index asked).1).1 in
+      let older = (guards (step.Lock client kind index) asked).may_lock.free in
       let event = older_event client (holder_at (machine v) (object_id kind index)) older in
       ap (lock_steps client id) is
-      ∙ steps_of_lock client id (present_state v id) (lock_answer (machine v) client (holder_at (machine v) id.0)) true
+      ∙ steps_of_lock client id (present_state v id) (lock_answer (machine v) client (holder_at (machine v) id.0))
       (ap (λ o. is_step (lock_answer (machine v) client (holder_at (machine v) o))) same ∙ event)
       ∙ (λ i. step.Lock client (named.kind_is i) (named.index_is i) ∷ [])
 
   -- Writes
-
-  pub write_is : (k : ℕ) (kind : Kind) (index : ℕ) → IsLegal v (step.Write k kind index) → exists v.script.topology kind index ≡ true
-  unfolding legal may
-  write_is k kind index asked = (and_parts (exists v.script.topology kind index) _
-      (and_parts (is_claimed (machine v).device k) _ (not_ended (machine v).stalled _ asked)).1).0
 
   written_step : (k : ℕ) (kind : Kind) (index : ℕ) (id : ObjId) → IsIdOf id kind index → write_step k id ≡ step.Write k kind index
   written_step k kind index id named = λ i. step.Write k (named.kind_is i) (named.index_is i)
@@ -238,19 +207,12 @@ module _ (v : Run) where
   -- Cleanups
 
   pub cleanup_done : (k : ℕ) → IsLegal v (step.Cleanup k) → is_commit_over v k ≡ true
-  unfolding legal may
-  cleanup_done k asked =
-      let d = (machine v).device in
-      let parts = and_parts (is_hw_done d k) _ (not_ended (machine v).stalled _ asked) in
-      and_from (is_hw_done d k) _ parts.0 (and_parts (is_all_latched v.script.topology d (machine v).records.latches k) _ parts.1).0
+  cleanup_done k asked = let g = guards (step.Cleanup k) asked in and_from (is_hw_done (machine v).device k) _ g.done g.latched
 
   pub return_done : (client : ℕ) → IsLegal v (step.Return client) → is_over_at v client ≡ true
-  unfolding legal may
-  return_done client asked = over (returning_of (doing_at (machine v) client)) refl where
-    over : (o : Option ℕ) → returning_of (doing_at (machine v) client) ≡ o → is_over_at v client ≡ true
-    over None is = absurd (false≢true (rw is at (not_ended (machine v).stalled _ asked)))
-    over (Some k) is = and_from (not (machine v).stalled) _ (ap not (legal-going v.script (machine v) (step.Return client) asked))
-        (rw is (rw is at (not_ended (machine v).stalled _ asked)))
+  return_done client asked =
+      let g = guards (step.Return client) asked in
+      and_from (not (machine v).stalled) _ (ap not (legal-going v.script (machine v) (step.Return client) asked)) (rw g.returns g.cleaned)
 
 -- What is asked for of a device's objects
 
@@ -261,14 +223,14 @@ module _ (v : Run) (few : HasFewObjects v.script.topology) where
   pub lock_index : (client : ℕ) (kind : Kind) (index : ℕ) → IsLegal v (step.Lock client kind index) → index ≤ 255
   lock_index client kind index asked =
       let there = ltb-true index (count_of v.script.topology kind)
-      (lockable_exists v.script.topology kind index (lock_is v client kind index asked).0) in
+      (lockable_exists v.script.topology kind index (guards v (step.Lock client kind index) asked).lockable) in
       let low = few_of v.script.topology kind index few there in
       omega (arith, low)
 
   pub lock_named : (client : ℕ) (kind : Kind) (index : ℕ) (id : ObjId) → IsLegal v (step.Lock client kind index) → id.0
       ≡ object_id kind index → IsIdOf id kind index
   lock_named client kind index id asked is = id_of v.script.topology id kind index few
-      (lockable_exists v.script.topology kind index (lock_is v client kind index asked).0) is
+      (lockable_exists v.script.topology kind index (guards v (step.Lock client kind index) asked).lockable) is
 
   pub lock_asked : (client : ℕ) (kind : Kind) (index : ℕ) (d : Doing) (t : Ticket) (id : ObjId) → IsLegal v (step.Lock client kind index)
       → d ≡ doing_at (machine v) client → d ≡ doing.Taking t → id.0 ≡ object_id kind index → MayLock v t id
@@ -279,37 +241,28 @@ module _ (v : Run) (few : HasFewObjects v.script.topology) where
         taking = sym is ∙ takes;
         is_id = named.is_id;
         lockable = ap (λ (k : Kind). is_lockable v.script.topology k (index_of id.0)) named.kind_is ∙ ap
-            (λ n. is_lockable v.script.topology kind n) named.index_is ∙ (lock_is v client kind index asked).0;
+            (λ n. is_lockable v.script.topology kind n) named.index_is ∙ (guards v (step.Lock client kind index) asked).lockable;
         reached = subst (λ n. taking_at v.script (machine v) client (λ q. reaches v.script.topology (machine v).device.world q n) ≡ true)
-            (sym same_id) (locks_parts v client (object_id kind index) (lock_is v client kind index asked).1).0;
+            (sym same_id) (taking_from v.script (machine v) client _ (guards v (step.Lock client kind index) asked).may_lock.reaching);
         goes_on = legal-going v.script (machine v) (step.Lock client kind index) asked;
       }
 
   pub write_index : (k : ℕ) (kind : Kind) (index : ℕ) → IsLegal v (step.Write k kind index) → index ≤ 255
   write_index k kind index asked = (let low = few_of v.script.topology kind index few
-      (ltb-true index (count_of v.script.topology kind) (write_is v k kind index asked)) in omega (arith, low))
+      (ltb-true index (count_of v.script.topology kind) (guards v (step.Write k kind index) asked).there) in omega (arith, low))
 
   pub written_named : (k : ℕ) (kind : Kind) (index : ℕ) (id : ObjId) → IsLegal v (step.Write k kind index) → id.0 ≡ object_id kind index
       → IsIdOf id kind index
-  written_named k kind index id asked is = id_of v.script.topology id kind index few (write_is v k kind index asked) is
-
-  flush_is : (k : ℕ) (kind : Kind) (index : ℕ) → IsLegal v (step.Flush k kind index) → (exists v.script.topology kind index ≡ true)
-      × (next_flush v.script.topology (machine v).device k ≡ Some (object_id kind index))
-  unfolding legal may
-  flush_is k kind index asked =
-      let parts = and_parts (exists v.script.topology kind index) _
-      (and_parts (is_all_written v.script.topology (machine v).device k) _ (not_ended (machine v).stalled _ asked)).1 in
-      (parts.0, value-is (object_id kind index) (next_flush v.script.topology (machine v).device k) parts.1)
+  written_named k kind index id asked is = id_of v.script.topology id kind index few (guards v (step.Write k kind index) asked).there is
 
   pub flush_kind : (k : ℕ) (kind : Kind) (index : ℕ) → IsLegal v (step.Flush k kind index) → kind ≡ Crtc
   flush_kind k kind index asked =
       let t = v.script.topology in
-      let is = flush_is k kind index asked in
-      let o : IsObject t Crtc (object_id kind index) = ids-in t Crtc (object_id kind index)
-      (flush-found t (machine v) k (object_id kind index) is.1).is_crtc in
+      let g = guards v (step.Flush k kind index) asked in
+      let o : IsObject t Crtc (object_id kind index) = ids-in t Crtc (object_id kind index) g.flush.is_crtc in
       let within = o.within in
-      sym (kind_of-object kind index (few_of t kind index few (ltb-true index (count_of t kind) is.0))) ∙ ap kind_of o.same ∙ kind_of-object
-      Crtc o.index (few_of t Crtc o.index few within)
+      sym (kind_of-object kind index (few_of t kind index few (ltb-true index (count_of t kind) g.there)))
+      ∙ ap kind_of o.same ∙ kind_of-object Crtc o.index (few_of t Crtc o.index few within)
 
 -- What a history tells besides
 
@@ -322,14 +275,11 @@ history_now v formed history = record { formed = formed; history = history }
 
 module _ (v : Run) (is : IsHistoryOf v) where
   pub cleanup_asked : (k : ℕ) → IsLegal v (step.Cleanup k) → MayCleanUp v k
-  unfolding legal may
   cleanup_asked k asked =
-      let d = (machine v).device in
-      let parts = and_parts (is_hw_done d k) _ (not_ended (machine v).stalled _ asked) in
-      let two = and_parts (is_all_latched v.script.topology d (machine v).records.latches k) _ parts.1 in
+      let g = guards v (step.Cleanup k) asked in
       record {
-        claimed = ((history_facts v.script v.steps (plain-from v.script is.formed) is.history).holds.tail.marks.done k parts.0).0;
-        kept = not-true (is_cleaned d k) two.1;
+        claimed = ((history_facts v.script v.steps (plain-from v.script is.formed) is.history).holds.tail.marks.done k g.done).0;
+        kept = g.kept;
         going = legal-going v.script (machine v) (step.Cleanup k) asked;
       }
 
@@ -346,10 +296,7 @@ module _ (v : Run) (is : IsHistoryOf v) where
       ]
 
   pub return_asked : (client : ℕ) → IsLegal v (step.Return client) → MayReturn v client
-  unfolding legal may
-  return_asked client asked = returns (returning_of (doing_at (machine v) client)) refl where
-    returns : (o : Option ℕ) → returning_of (doing_at (machine v) client) ≡ o → MayReturn v client
-    returns None none = absurd (false≢true (rw none at (not_ended (machine v).stalled _ asked)))
-    returns (Some k) some =
-        let there = inside client (λ idle. (let none : None ≡ Some k = ap returning_of (sym idle) ∙ some in cc)) in
-        record { low = there.0; high = there.1; commit = k; returning = some }
+  return_asked client asked =
+      let g = guards v (step.Return client) asked in
+      let there = inside client (λ idle. (let one : None ≡ Some g.commit = ap returning_of (sym idle) ∙ g.returns in cc)) in
+      record { low = there.0; high = there.1; commit = g.commit; returning = g.returns }

@@ -32,9 +32,9 @@ use Rattle.kms_laws.proofs.ClientProgress.{taking-from}
 use Rattle.kms_laws.proofs.Steps.{request-is}
 use Rattle.kms_laws.proofs.SmallNumbers.{numbers_fit}
 use Rattle.kms_signal.specs.InStep.{IsQueueOf}
-use Rattle.kms_signal.specs.Queues.{Queue, empty_queue, space_used}
+use Rattle.kms_signal.specs.Queues.{Queue, empty_queue}
 use Rattle.kms_track.specs.MachineLaws.{awaited_answer, busy_answer}
-use Rattle.kms_track.specs.Tracking.{busy_of, not_yet_of}
+use Rattle.kms_track.specs.Tracking.{not_yet_of}
 use Rattle.kms_track.proofs.CheckedLemmas.{device_within, in_touched}
 use Rattle.kms_track.proofs.MachineAnswers.{busy_machine}
 use Rattle.kms_track.proofs.NotYetAnswers.{awaited_told, not_yet_machine}
@@ -100,12 +100,12 @@ busy_same t m true None = refl
 busy_same t m true (Some object) = refl
 busy_same t m false o = refl
 
-late_plain : (t : Topology) (m : Machine) (client : ℕ) (r : Request) (flags used events : ℕ) (busy : Option (ObjId × ℕ)) → flags ≡ r.flags
+late_plain : (t : Topology) (m : Machine) (client : ℕ) (r : Request) {flags used events : ℕ} {busy : Option (ObjId × ℕ)} → flags ≡ r.flags
     → used ≡ steps.space_used m.events client
     → events ≡ length (named t m.device.world r) → busy ≡ busy_answer t m.device.commits (steps.first_pending t m r)
     → late_by flags used events (busy_as busy) ≡ late_reply t m client r
 unfolding steps.lacks_space
-late_plain t m client r flags used events busy flags_are used_is events_are busy_is =
+late_plain t m client r flags_are used_is events_are busy_is =
     rw (flags_are, used_is, events_are, busy_is)
     (ap (λ (x : Option Reply). if wants_event r.flags
     && nat_lt 4096 (steps.space_used m.events client + 32 * length (named t m.device.world r))
@@ -113,14 +113,13 @@ late_plain t m client r flags used events busy flags_are used_is events_are busy
     (busy_same t m (is_nonblock r.flags) (steps.first_pending t m r)))
 
 -- the stores tell what the machine does
-pub late_same : (r : Run) (st : Stores) (client : ℕ) (request : Request) (named : ℕ) (touched : Mask) (flags : ℕ) → Stands r st
+pub late_same : {r : Run} {st : Stores} {client : ℕ} (request : Request) {named : ℕ} {touched : Mask} (flags : ℕ) → Stands r st
     → IsQueueOf (queue_of st.queues client) (machine r).events client → flags ≡ request.flags
     → named ≡ named_by r.script.topology (world r) request → touched ≡ touched_by r.script.topology (world r) request
     → late_told (queue_of st.queues client) st.tracker named touched flags ≡ late_reply r.script.topology (machine r) client request
-late_same r st client request named touched flags stands queue flags_are named_are touched_are =
+late_same {r} {st} {client} request {named} {touched} flags stands queue flags_are named_are touched_are =
     let limits = device_within r.script.topology stands.formed.device in
-    late_plain r.script.topology (machine r) client request flags (space_used (queue_of st.queues client)) (count_in named)
-    (busy_of st.tracker touched) flags_are
+    late_plain r.script.topology (machine r) client request flags_are
     (ap (λ n. 32 * (n + length (queue_of st.queues client).unread)) queue.reserved ∙ ap
     (λ events. 32 * (reserved_at (machine r).events client + length events)) queue.unread)
     (ap count_in named_are ∙ count_named r.script.topology (names (world r).values (after (world r) request) request.assigns) limits.crtcs)
@@ -188,18 +187,18 @@ swap_is_legal r client checked flags asked is ready =
 
 -- What a swap answers, as the call finds it
 
-late_of : (r : Run) (st : Stores) (client : ℕ) (checked : Checked) (flags : ℕ) (asked : IsReadyToCommit r client checked flags)
+late_of : {r : Run} {st : Stores} {client : ℕ} (checked : Checked) (flags : ℕ) (asked : IsReadyToCommit r client checked flags)
     → Stands r st → IsQueueOf (queue_of st.queues client) (machine r).events client
     → late_told (queue_of st.queues client) st.tracker checked.named checked.touched flags
     ≡ late_reply r.script.topology (machine r) client asked.request
-late_of r st client checked flags asked stands queue =
-    late_same r st client asked.request checked.named checked.touched flags stands queue asked.flags_are asked.checked_as.named
+late_of {r} {st} {client} checked flags asked stands queue =
+    late_same asked.request flags stands queue asked.flags_are asked.checked_as.named
     asked.checked_as.touched
 
 -- the client's queue
-pub queue_there : (r : Run) (st : Stores) (client : ℕ) (request : Request) → request_at r.script (machine r) client ≡ Some request
+pub queue_there : {r : Run} {st : Stores} (client : ℕ) {request : Request} → request_at r.script (machine r) client ≡ Some request
     → Stands r st → OwnQueue r st client
-queue_there r st client request at stands =
+queue_there {r} client {request} at stands =
     let there = client_there r.script (machine r) client (command.Atomic request)
     (request-is (command_at r.script (machine r) client) request at) in
     let is = stands.stores.queues.queue client there.0 there.1 in
@@ -211,92 +210,85 @@ queue_there r st client request at stands =
       few = (let unread = ap (λ (events : List Event). length events) is.unread in omega (arith, fit, is.reserved, unread));
     }
 
-pub own_queue : (r : Run) (st : Stores) (client : ℕ) (checked : Checked) (flags : ℕ) → IsReadyToCommit r client checked flags → Stands r st
+pub own_queue : {r : Run} {st : Stores} {client : ℕ} {checked : Checked} {flags : ℕ} → IsReadyToCommit r client checked flags → Stands r st
     → OwnQueue r st client
-own_queue r st client checked flags asked stands = queue_there r st client asked.request asked.at stands
+own_queue {r} {st} {client} asked stands = queue_there client asked.at stands
 
-pub late_decides : (r v : Run) (st : Stores) (client : ℕ) (checked : Checked) (flags : ℕ) (q : Queue) (given : Reply) → Stands r st → r ≡ v
-    → IsReadyToCommit v client checked flags → q ≡ queue_of st.queues client
-    → Some given ≡ late_told q st.tracker checked.named checked.touched flags → Decides v client (step.Refuse client) given
-late_decides r v st client checked flags q given stands same asked q_is is =
-    let now = subst (λ (x : Run). IsReadyToCommit x client checked flags) (sym same) asked in
-    let queue = own_queue r st client checked flags now stands in
-    subst (λ (x : Run). Decides x client (step.Refuse client) given) same
-    (late_refuses r client checked flags given now
-    (sym (late_of r st client checked flags now stands queue.is) ∙ sym
-    (is ∙ ap (λ (x : Queue). late_told x st.tracker checked.named checked.touched flags) q_is)))
+pub late_decides : {r : Run} {st : Stores} {client : ℕ} {checked : Checked} {flags : ℕ} {q : Queue} {given : Reply} → Stands r st
+    → IsReadyToCommit r client checked flags → q ≡ queue_of st.queues client
+    → Some given ≡ late_told q st.tracker checked.named checked.touched flags → Decides r client (step.Refuse client) given
+late_decides {r} {st} {client} {checked} {flags} {given} stands asked q_is is =
+    let queue = own_queue asked stands in
+    late_refuses r client checked flags given asked
+    (sym (late_of checked flags asked stands queue.is) ∙ sym
+    (is ∙ ap (λ (x : Queue). late_told x st.tracker checked.named checked.touched flags) q_is))
 
-answer_at : (r : Run) (client : ℕ) (request : Request) (late : Option Reply) (awaited : Option (ObjId × ℕ))
+answer_at : (r : Run) (client : ℕ) {request : Request} {late : Option Reply} (awaited : Option (ObjId × ℕ))
     → request_at r.script (machine r) client ≡ Some request
     → late_reply r.script.topology (machine r) client request ≡ late → awaited_answer r.script.topology (machine r) request ≡ awaited
     → refused_or late (waits_or_commits awaited (length (machine r).device.commits)) ≡ swap_answer r client
-answer_at r client request late awaited at late_is awaited_is =
+answer_at r client {request} {late} awaited at late_is awaited_is =
     sym (ap (swap_answer_of r.script.topology (machine r) client) at
     ∙ ap (λ (x : Option Reply). refused_or x (waits_or_commits (awaited_answer r.script.topology (machine r) request)
     (length (machine r).device.commits))) late_is
     ∙ ap (λ (x : Option (ObjId × ℕ)). refused_or late (waits_or_commits x (length (machine r).device.commits))) awaited_is)
 
-pub swap_answers : (r v : Run) (st : Stores) (client : ℕ) (checked : Checked) (flags : ℕ) (q : Queue) (late : Option Reply)
-    (awaited : Option (ObjId × ℕ)) → Stands r st → r ≡ v → IsReadyToCommit v client checked flags
+pub swap_answers : {r : Run} {st : Stores} {client : ℕ} {checked : Checked} {flags : ℕ} {q : Queue} {late : Option Reply}
+    (awaited : Option (ObjId × ℕ)) → Stands r st → IsReadyToCommit r client checked flags
     → q ≡ queue_of st.queues client → late ≡ late_told q st.tracker checked.named checked.touched flags
     → (late ≡ None → awaited ≡ not_yet_of st.tracker checked.named)
-    → refused_or late (waits_or_commits awaited (length (machine v).device.commits)) ≡ swap_answer v client
-swap_answers r v st client checked flags q late awaited stands same asked q_is is awaited_is =
-    let now = subst (λ (x : Run). IsReadyToCommit x client checked flags) (sym same) asked in
-    let queue = own_queue r st client checked flags now stands in
+    → refused_or late (waits_or_commits awaited (length (machine r).device.commits)) ≡ swap_answer r client
+swap_answers {r} {st} {client} {checked} {flags} {late} awaited stands asked q_is is awaited_is =
+    let queue = own_queue asked stands in
     let limits = device_within r.script.topology stands.formed.device in
-    let late_is : late_reply r.script.topology (machine r) client now.request ≡ late =
-    sym (late_of r st client checked flags now stands queue.is) ∙ sym
+    let late_is : late_reply r.script.topology (machine r) client asked.request ≡ late =
+    sym (late_of checked flags asked stands queue.is) ∙ sym
     (is ∙ ap (λ (x : Queue). late_told x st.tracker checked.named checked.touched flags) q_is) in
-    subst (λ (x : Run). refused_or late (waits_or_commits awaited (length (machine x).device.commits)) ≡ swap_answer x client) same
-    (by_late r client now late late_is (λ none. sym
-    (awaited_is none ∙ ap (not_yet_of st.tracker) now.checked_as.named ∙ awaited_told r.script.topology (machine r) st.tracker
-    now.request stands.stores.tracker limits)))
+    by_late r client asked late late_is (λ none. sym
+    (awaited_is none ∙ ap (not_yet_of st.tracker) asked.checked_as.named ∙ awaited_told r.script.topology (machine r) st.tracker
+    asked.request stands.stores.tracker limits))
   where
-    by_late : (r : Run) (client : ℕ) (now : IsReadyToCommit r client checked flags) (late : Option Reply)
-        → late_reply r.script.topology (machine r) client now.request ≡ late
-        → (late ≡ None → awaited_answer r.script.topology (machine r) now.request ≡ awaited)
+    by_late : (r : Run) (client : ℕ) (asked : IsReadyToCommit r client checked flags) (late : Option Reply)
+        → late_reply r.script.topology (machine r) client asked.request ≡ late
+        → (late ≡ None → awaited_answer r.script.topology (machine r) asked.request ≡ awaited)
         → refused_or late (waits_or_commits awaited (length (machine r).device.commits)) ≡ swap_answer r client
-    by_late r client now None late_is rest = answer_at r client now.request None awaited now.at late_is (rest refl)
-    by_late r client now (Some given) late_is rest = answer_at r client now.request (Some given)
-        (awaited_answer r.script.topology (machine r) now.request) now.at late_is refl
+    by_late r client asked None late_is rest = answer_at r client awaited asked.at late_is (rest refl)
+    by_late r client asked (Some given) late_is rest = answer_at r client
+        (awaited_answer r.script.topology (machine r) asked.request) asked.at late_is refl
 
-pub swap_may : (r v : Run) (st : Stores) (client : ℕ) (checked : Checked) (flags : ℕ) (q : Queue) → Stands r st → r ≡ v
-    → IsReadyToCommit v client checked flags
+pub swap_may : {r : Run} {st : Stores} {client : ℕ} {checked : Checked} {flags : ℕ} {q : Queue} → Stands r st
+    → IsReadyToCommit r client checked flags
     → q ≡ queue_of st.queues client → None ≡ late_told q st.tracker checked.named checked.touched flags → None
-    ≡ not_yet_of st.tracker checked.named → legal v.script (machine v) (step.Swap client) ≡ true
-swap_may r v st client checked flags q stands same asked q_is is awaited_is =
-    let now = subst (λ (x : Run). IsReadyToCommit x client checked flags) (sym same) asked in
-    let queue = own_queue r st client checked flags now stands in
+    ≡ not_yet_of st.tracker checked.named → legal r.script (machine r) (step.Swap client) ≡ true
+swap_may {r} {st} {client} {checked} {flags} stands asked q_is is awaited_is =
+    let queue = own_queue asked stands in
     let limits = device_within r.script.topology stands.formed.device in
-    let late_is : late_reply r.script.topology (machine r) client now.request ≡ None =
-    sym (late_of r st client checked flags now stands queue.is) ∙ sym
+    let late_is : late_reply r.script.topology (machine r) client asked.request ≡ None =
+    sym (late_of checked flags asked stands queue.is) ∙ sym
     (is ∙ ap (λ (x : Queue). late_told x st.tracker checked.named checked.touched flags) q_is) in
-    let ready : steps.is_ready r.script.topology (machine r) now.request ≡ true =
-    sym (not_yet_machine r.script.topology (machine r) st.tracker now.request stands.stores.tracker limits)
-    ∙ ap (λ (o : Option (ObjId × ℕ)). is_none o) (sym (awaited_is ∙ ap (not_yet_of st.tracker) now.checked_as.named)) in
-    subst (λ (x : Run). legal x.script (machine x) (step.Swap client) ≡ true) same (swap_is_legal r client checked flags now late_is ready)
+    let ready : steps.is_ready r.script.topology (machine r) asked.request ≡ true =
+    sym (not_yet_machine r.script.topology (machine r) st.tracker asked.request stands.stores.tracker limits)
+    ∙ ap (λ (o : Option (ObjId × ℕ)). is_none o) (sym (awaited_is ∙ ap (not_yet_of st.tracker) asked.checked_as.named)) in
+    swap_is_legal r client checked flags asked late_is ready
 
 -- the queue at a client's index
-pub queue_at : (r : Run) (st : Stores) (client : ℕ) (request : Request) (q : Queue) → request_at r.script (machine r) client ≡ Some request
+pub queue_at : {r : Run} {st : Stores} (client : ℕ) {request : Request} {q : Queue} → request_at r.script (machine r) client ≡ Some request
     → Stands r st → q ≡ slice_index_or st.queues (client - 1) q → q ≡ queue_of st.queues client
-queue_at r st client request q at stands is = is ∙ get_or_default st.queues (client - 1) q empty_queue
-    (queue_there r st client request at stands).within
+queue_at {r} {st} client {request} {q} at stands is = is ∙ get_or_default st.queues (client - 1) q empty_queue
+    (queue_there client at stands).within
 
-pub few_at : (r : Run) (st : Stores) (client : ℕ) (request : Request) (q : Queue) → request_at r.script (machine r) client ≡ Some request
+pub few_at : {r : Run} {st : Stores} (client : ℕ) {request : Request} {q : Queue} → request_at r.script (machine r) client ≡ Some request
     → Stands r st → q ≡ slice_index_or st.queues (client - 1) q → q.reserved + length q.unread ≤ 128
-few_at r st client request q at stands is =
-    subst (λ (x : Queue). x.reserved + length x.unread ≤ 128) (sym (queue_at r st client request q at stands is))
-    (queue_there r st client request at stands).few
+few_at {r} {st} client {request} {q} at stands is =
+    subst (λ (x : Queue). x.reserved + length x.unread ≤ 128) (sym (queue_at client at stands is))
+    (queue_there client at stands).few
 
-pub indexed_queue : (r v : Run) (st : Stores) (client : ℕ) (checked : Checked) (flags : ℕ) (q : Queue) → Stands r st → r ≡ v
-    → IsReadyToCommit v client checked flags → q ≡ slice_index_or st.queues (client - 1) q → q ≡ queue_of st.queues client
-indexed_queue r v st client checked flags q stands same asked is =
-    let now = subst (λ (x : Run). IsReadyToCommit x client checked flags) (sym same) asked in
-    queue_at r st client now.request q now.at stands is
+pub indexed_queue : {r : Run} {st : Stores} {client : ℕ} {checked : Checked} {flags : ℕ} {q : Queue} → Stands r st
+    → IsReadyToCommit r client checked flags → q ≡ slice_index_or st.queues (client - 1) q → q ≡ queue_of st.queues client
+indexed_queue {r} {st} {client} {q} stands asked is =
+    queue_at client asked.at stands is
 
-pub few_events : (r v : Run) (st : Stores) (client : ℕ) (checked : Checked) (flags : ℕ) (q : Queue) → Stands r st → r ≡ v
-    → IsReadyToCommit v client checked flags → q ≡ slice_index_or st.queues (client - 1) q → q.reserved + length q.unread ≤ 128
-few_events r v st client checked flags q stands same asked is =
-    let now = subst (λ (x : Run). IsReadyToCommit x client checked flags) (sym same) asked in
-    few_at r st client now.request q now.at stands is
+pub few_events : {r : Run} {st : Stores} {client : ℕ} {checked : Checked} {flags : ℕ} {q : Queue} → Stands r st
+    → IsReadyToCommit r client checked flags → q ≡ slice_index_or st.queues (client - 1) q → q.reserved + length q.unread ≤ 128
+few_events {r} {st} {client} {q} stands asked is =
+    few_at client asked.at stands is

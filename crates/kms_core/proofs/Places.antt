@@ -1,7 +1,6 @@
 -- What a client's command and what it does tell.
-use Rattle.std.proofs.Common.{◌≡◌, ℕ, ◌≤◌, ◌<◌, Bool, true, false, List, length, Option, Some, None, refl, ap, ◌∙◌, arith}
+use Rattle.std.proofs.Common.{◌≡◌, ℕ, ◌≤◌, ◌<◌, Bool, true, false, List, length, Some, refl, ap, ◌∙◌, arith}
 use Rattle.std.specs.Prelude.{◌&&◌, not}
-use Rattle.std.proofs.lemmas.Bool.{and_parts}
 use Rattle.kms_model.specs.declared.runs.Doing.{Doing}
 use Rattle.kms_model.specs.declared.runs.Doing.TheVariants as doing
 use Rattle.kms_model.specs.declared.runs.Place.{Place}
@@ -15,7 +14,7 @@ use Rattle.kms_model.specs.Machine.Steps.{idle_at, is_idle}
 use Rattle.kms_model.specs.Script.WellFormed.{IsWellFormed}
 use Rattle.kms_wwlock.specs.Standing.{Standing, IsClient, place_of, ticket_in}
 use Rattle.kms_wwlock.specs.InStep.{AreClientsOf, HasNoContext}
-use Rattle.kms_laws.proofs.Steps.{idle-none, idle-some}
+use Rattle.kms_model.proofs.Guards.{idle_guards}
 use Rattle.kms_laws.proofs.SmallNumbers.{numbers_fit}
 use Rattle.kms_laws.proofs.Sizes.{command-there}
 use Rattle.kms_core.specs.Run.{Run, machine}
@@ -36,15 +35,9 @@ pub record IdleAt (s : Script) (m : Machine) (client : ℕ) (test : Command → 
   pub passes : test command ≡ true
 
 pub idle_parts : (s : Script) (m : Machine) (client : ℕ) (test : Command → Bool) → idle_at s m client test ≡ true → IdleAt s m client test
-idle_parts s m client test e = found (command_at s m client) refl where
-  found : (o : Option Command) → command_at s m client ≡ o → IdleAt s m client test
-  found None is = absurd (idle-none s m client test is e)
-  found (Some c) is = record {
-    idle = idle_is (doing_at m client) (and_parts (is_idle (doing_at m client)) _ e).0;
-    command = c;
-    at = is;
-    passes = idle-some s m client test c is e;
-  }
+idle_parts s m client test e =
+    let g = idle_guards s m client test e in
+    record { idle = idle_is (doing_at m client) g.idle; command = g.command; at = g.stands; passes = g.passes }
 
 -- a client that has a command is one of the script's
 pub client_there : (s : Script) (m : Machine) (client : ℕ) (c : Command) → command_at s m client ≡ Some c → (1 ≤ client)
@@ -52,8 +45,8 @@ pub client_there : (s : Script) (m : Machine) (client : ℕ) (c : Command) → c
 client_there s m client c is = let there = command-there s (entry_at m client) c is in (there.low, omega (arith, there.high))
 
 -- its number is one that clients can have
-pub is_client : (s : Script) (client : ℕ) → IsWellFormed s → (1 ≤ client) × (client ≤ length s.clients) → IsClient client
-is_client s client formed there = (there.0, omega (arith, there.1, formed.few))
+pub is_client : {s : Script} (client : ℕ) → IsWellFormed s → (1 ≤ client) × (client ≤ length s.clients) → IsClient client
+is_client client formed there = (there.0, omega (arith, there.1, formed.few))
 
 -- a client that may do a step where it is idle
 pub record MayIdle (s : Script) (m : Machine) (client : ℕ) (st : Standing) : Type 0 where
@@ -62,12 +55,12 @@ pub record MayIdle (s : Script) (m : Machine) (client : ℕ) (st : Standing) : T
   pub command_fits : (place_of st client).command < 4294967295
 
 -- its place in the store is the machine's
-pub may_idle : (s : Script) (h : List Step) (client : ℕ) (test : Command → Bool) (st : Standing) → IsWellFormed s → is_history s h ≡ true
+pub may_idle : {s : Script} (h : List Step) (client : ℕ) (test : Command → Bool) {st : Standing} → IsWellFormed s → is_history s h ≡ true
     → AreClientsOf (at s h).contexts st
     → idle_at s (at s h) client test ≡ true → MayIdle s (at s h) client st
-may_idle s h client test st formed history stands asked =
+may_idle {s} h client test formed history stands asked =
     let parts = idle_parts s (at s h) client test asked in
-    let is = is_client s client formed (client_there s (at s h) client parts.command parts.at) in
+    let is = is_client client formed (client_there s (at s h) client parts.command parts.at) in
     let same = stands.places client is in
     let fit = (numbers_fit s h formed history).commands client in
     record {
@@ -94,12 +87,12 @@ pub record IsIdleAt (r : Run) (st : Stores) (client : ℕ) (test : Command → B
   pub at : command_at r.script (machine r) client ≡ Some command
   pub passes : test command ≡ true
 
-pub idle_there : (r : Run) (st : Stores) (client : ℕ) (test : Command → Bool) → Stands r st → idle_at r.script (machine r) client test
+pub idle_there : {r : Run} {st : Stores} (client : ℕ) (test : Command → Bool) → Stands r st → idle_at r.script (machine r) client test
     ≡ true → IsIdleAt r st client test
-idle_there r st client test stands idle =
+idle_there {r} {st} client test stands idle =
     let parts = idle_parts r.script (machine r) client test idle in
     let there = client_there r.script (machine r) client parts.command parts.at in
-    let may = may_idle r.script r.steps client test st.clients stands.formed stands.history stands.stores.clients idle in
+    let may = may_idle r.steps client test stands.formed stands.history stands.stores.clients idle in
     record {
       low = there.0;
       high = there.1;

@@ -1,5 +1,5 @@
 -- What a swap asks for is what a commit asks for, and its answers.
-use Rattle.std.proofs.Common.{◌≡◌, ℕ, true, List, [], ◌∷◌, length, Option, Some, None, refl, sym, ap, ◌∙◌, subst, append-nil}
+use Rattle.std.proofs.Common.{◌≡◌, ℕ, true, List, [], ◌∷◌, length, Option, Some, None, sym, ap, ◌∙◌, subst, append-nil}
 use Rattle.kms_model.specs.declared.objects.ObjId.{ObjId}
 use Rattle.kms_model.specs.declared.objects.Topology.{Topology}
 use Rattle.kms_model.specs.declared.replies.Reply.{Reply}
@@ -34,7 +34,7 @@ pub ready_now : (r : Run) (t : ℕ) (used : List (ℕ × Look)) (checked : Check
     → is_history r.script r.steps ≡ true → IsFirstStale (look_up (world r)) used None → MaySwap r t used checked resolved
     → IsReadyToCommit r (taker (machine r) t) checked resolved.flags
 ready_now r t used checked resolved formed history fresh asked =
-    let now = accepted_now r t used asked.request resolved checked formed history fresh asked.deciding asked.accepted in
+    let now = accepted_now formed history fresh asked.deciding asked.accepted in
     record {
       request = asked.request;
       number = now.decider.takes.number;
@@ -48,48 +48,43 @@ ready_now r t used checked resolved formed history fresh asked =
       no_test = asked.no_test;
     }
 
-commit_now : (r : Run) (st : Stores) (t : ℕ) (used : List (ℕ × Look)) (checked : Checked) (resolved : Resolved) → Stands r st
+commit_now : {r : Run} {st : Stores} {t : ℕ} {used : List (ℕ × Look)} {checked : Checked} {resolved : Resolved} → Stands r st
     → IsFirstStale (look_up (world r)) used None → MaySwap r t used checked resolved
     → legal r.script (machine r) (step.Swap (taker (machine r) t)) ≡ true → MayCommit r (taker (machine r) t) checked resolved
 unfolding ready_now
-commit_now r st t used checked resolved stands fresh asked is_legal =
+commit_now {r} {t} {used} {checked} {resolved} stands fresh asked is_legal =
     record {
       ready = ready_now r t used checked resolved stands.formed stands.history fresh asked;
       states = asked.states;
-      asks = (of_request r used asked.request resolved asked.accepted.duplicates stands.formed stands.history
+      asks = (of_request stands.formed stands.history
           (tells_now (world r) asked.request used fresh asked.deciding.labels) asked.accepted.given).asks;
       legal = is_legal;
     }
 
 -- as the call finds it
 
-pub ready_as : (r v : Run) (st : Stores) (t : ℕ) (used : List (ℕ × Look)) (checked : Checked) (resolved : Resolved) (client : ℕ)
-    → Stands r st → r ≡ v → IsFirstStale (named_among st.made.things) used None → MaySwap v t used checked resolved
-    → client ≡ taker_in (doing_in st.clients.places) t → IsReadyToCommit v client checked resolved.flags
-ready_as r v st t used checked resolved client stands same none asked is =
-    let now = subst (λ (x : Run). MaySwap x t used checked resolved) (sym same) asked in
-    let done = ready_now r t used checked resolved stands.formed stands.history (fresh_now r r st used stands refl none) now in
-    let own = subst (λ n. IsReadyToCommit r n checked resolved.flags) (sym (taker_as r r st t client stands refl is)) done in
-    subst (λ (x : Run). IsReadyToCommit x client checked resolved.flags) same own
+pub ready_as : {r : Run} {st : Stores} {t : ℕ} {used : List (ℕ × Look)} {checked : Checked} {resolved : Resolved} {client : ℕ}
+    → Stands r st → IsFirstStale (named_among st.made.things) used None → MaySwap r t used checked resolved
+    → client ≡ taker_in (doing_in st.clients.places) t → IsReadyToCommit r client checked resolved.flags
+ready_as {r} {t} {used} {checked} {resolved} {client} stands none asked is =
+    let done = ready_now r t used checked resolved stands.formed stands.history (fresh_now used stands none) asked in
+    subst (λ n. IsReadyToCommit r n checked resolved.flags) (sym (taker_as t stands is)) done
 
 -- nothing is gained where nothing hinders
-pub gains_none : (v w : Run) (client : ℕ) (o : Option Decided) → None ≡ o → w ≡ gains v (hindered_steps client o) → w ≡ v
-gains_none v w client o none is = is ∙ ap (λ x. gains v (hindered_steps client x)) (sym none) ∙ ap
+pub gains_none : (v : Run) {w : Run} (client : ℕ) {o : Option Decided} → None ≡ o → w ≡ gains v (hindered_steps client o) → w ≡ v
+gains_none v client none is = is ∙ ap (λ x. gains v (hindered_steps client x)) (sym none) ∙ ap
     (λ (xs : List Step). record v { steps = xs }) (append-nil v.steps)
 
-pub commit_as : (r v w : Run) (st : Stores) (t : ℕ) (used : List (ℕ × Look)) (checked : Checked) (resolved : Resolved) (client : ℕ)
-    (o : Option Decided) → Stands r st → r ≡ v → IsFirstStale (named_among st.made.things) used None
-    → MaySwap v t used checked resolved → client ≡ taker_in (doing_in st.clients.places) t → None ≡ o → w
-    ≡ gains v (hindered_steps client o) → MaySwapUnless v client o → MayCommit w client checked resolved
-commit_as r v w st t used checked resolved client o stands same none asked is unhindered gained may =
-    let now = subst (λ (x : Run). MaySwap x t used checked resolved) (sym same) asked in
-    let own = taker_as r r st t client stands refl is in
-    let may_v : legal v.script (machine v) (step.Swap client) ≡ true = subst (MaySwapUnless v client) (sym unhindered) may in
-    let may_r : legal r.script (machine r) (step.Swap client)
-    ≡ true = subst (λ (x : Run). legal x.script (machine x) (step.Swap client) ≡ true) (sym same) may_v in
-    let done = commit_now r st t used checked resolved stands (fresh_now r r st used stands refl none) now
-    (subst (λ n. legal r.script (machine r) (step.Swap n) ≡ true) own may_r) in
-    subst (λ (x : Run). MayCommit x client checked resolved) (same ∙ sym (gains_none v w client o unhindered gained))
+pub commit_as : {r : Run} (w : Run) {st : Stores} (t : ℕ) (used : List (ℕ × Look)) (checked : Checked) (resolved : Resolved) (client : ℕ)
+    (o : Option Decided) → Stands r st → IsFirstStale (named_among st.made.things) used None
+    → MaySwap r t used checked resolved → client ≡ taker_in (doing_in st.clients.places) t → None ≡ o → w
+    ≡ gains r (hindered_steps client o) → MaySwapUnless r client o → MayCommit w client checked resolved
+commit_as {r} w {st = st} t used checked resolved client o stands none asked is unhindered gained may =
+    let own = taker_as t stands is in
+    let may_now : legal r.script (machine r) (step.Swap client) ≡ true = subst (MaySwapUnless r client) (sym unhindered) may in
+    let done = commit_now stands (fresh_now used stands none) asked
+    (subst (λ n. legal r.script (machine r) (step.Swap n) ≡ true) own may_now) in
+    subst (λ (x : Run). MayCommit x client checked resolved) (sym (gains_none r client unhindered gained))
     (subst (λ n. MayCommit r n checked resolved) (sym own) done)
 
 -- Answers
@@ -115,34 +110,35 @@ by_answer names used v client (answer.NotYet object commit) fresh is = (fresh, i
 by_answer names used v client (answer.Again label was now) fresh is = absurd
     (never_again v.script.topology (machine v) client (request_at v.script (machine v) client) label was now is)
 
-pub hindered_as : (r v : Run) (st : Stores) (t : ℕ) (used : List (ℕ × Look)) (client : ℕ) (o : Option Decided) (given other : Decided)
-    → Stands r st → r ≡ v → IsFirstStale (named_among st.made.things) used None
-    → client ≡ taker_in (doing_in st.clients.places) t → Some given ≡ o → or_answer o other ≡ swap_answer v client
-    → IsDecided (look_up (world v)) used (swap_answer v (taker (machine v) t)) given
-hindered_as r v st t used client o given other stands same none is some answered =
-    by_answer (look_up (world v)) used v (taker (machine v) t) given (fresh_now r v st used stands same none)
-    (ap (λ (x : Option Decided). or_answer x other) some ∙ answered ∙ ap (swap_answer v) (taker_as r v st t client stands same is))
+pub hindered_as : {r : Run} {st : Stores} (t : ℕ) (used : List (ℕ × Look)) {client : ℕ} {o : Option Decided} {given : Decided} (other :
+    Decided)
+    → Stands r st → IsFirstStale (named_among st.made.things) used None
+    → client ≡ taker_in (doing_in st.clients.places) t → Some given ≡ o → or_answer o other ≡ swap_answer r client
+    → IsDecided (look_up (world r)) used (swap_answer r (taker (machine r) t)) given
+hindered_as {r} t used {client} {given} other stands none is some answered =
+    by_answer (look_up (world r)) used r (taker (machine r) t) given (fresh_now used stands none)
+    (ap (λ (x : Option Decided). or_answer x other) some ∙ answered ∙ ap (swap_answer r) (taker_as t stands is))
 
-pub steps_as : (r v w : Run) (st : Stores) (t client : ℕ) (o : Option Decided) (given : Decided) → Stands r st → r ≡ v → client
-    ≡ taker_in (doing_in st.clients.places) t → Some given ≡ o → w ≡ gains v (hindered_steps client o)
-    → w ≡ gains v (steps_of (taker (machine v) t) (step.Swap (taker (machine v) t)) given)
-steps_as r v w st t client o given stands same is some gained =
-    gained ∙ ap (λ x. gains v (hindered_steps client x)) (sym some) ∙ ap (λ n. gains v (steps_of n (step.Swap n) given))
-    (taker_as r v st t client stands same is)
+pub steps_as : {r : Run} {w : Run} {st : Stores} (t : ℕ) {client : ℕ} {o : Option Decided} {given : Decided} → Stands r st → client
+    ≡ taker_in (doing_in st.clients.places) t → Some given ≡ o → w ≡ gains r (hindered_steps client o)
+    → w ≡ gains r (steps_of (taker (machine r) t) (step.Swap (taker (machine r) t)) given)
+steps_as {r} t {client} {given} stands is some gained =
+    gained ∙ ap (λ x. gains r (hindered_steps client x)) (sym some) ∙ ap (λ n. gains r (steps_of n (step.Swap n) given))
+    (taker_as t stands is)
 
-pub committed_as : (r v w : Run) (st : Stores) (t client commit : ℕ) (o : Option Decided) → Stands r st → r ≡ v → client
-    ≡ taker_in (doing_in st.clients.places) t → None ≡ o → w ≡ gains v (hindered_steps client o)
-    → or_answer o (answer.Done (reply.Commit (length (machine v).device.commits))) ≡ swap_answer v client → commit
-    ≡ length (machine w).device.commits → answer.Done (reply.Commit commit) ≡ swap_answer v (taker (machine v) t)
-committed_as r v w st t client commit o stands same is none gained answered number =
+pub committed_as : {r : Run} {w : Run} {st : Stores} (t : ℕ) {client commit : ℕ} {o : Option Decided} → Stands r st → client
+    ≡ taker_in (doing_in st.clients.places) t → None ≡ o → w ≡ gains r (hindered_steps client o)
+    → or_answer o (answer.Done (reply.Commit (length (machine r).device.commits))) ≡ swap_answer r client → commit
+    ≡ length (machine w).device.commits → answer.Done (reply.Commit commit) ≡ swap_answer r (taker (machine r) t)
+committed_as {r} {w} t {client} {o} stands is none gained answered number =
     ap (λ k. answer.Done (reply.Commit k)) (number ∙ ap (λ (x : Run). length (machine x).device.commits)
-    (gains_none v w client o none gained))
-    ∙ ap (λ (x : Option Decided). or_answer x (answer.Done (reply.Commit (length (machine v).device.commits)))) none ∙ answered ∙ ap
-    (swap_answer v) (taker_as r v st t client stands same is)
+    (gains_none r client none gained))
+    ∙ ap (λ (x : Option Decided). or_answer x (answer.Done (reply.Commit (length (machine r).device.commits)))) none ∙ answered ∙ ap
+    (swap_answer r) (taker_as t stands is)
 
-pub gained_as : (r v w last : Run) (st : Stores) (t client : ℕ) (o : Option Decided) → Stands r st → r ≡ v → client
-    ≡ taker_in (doing_in st.clients.places) t → None ≡ o → w ≡ gains v (hindered_steps client o)
-    → last ≡ gains w (step.Swap client ∷ []) → last ≡ gains v (step.Swap (taker (machine v) t) ∷ [])
-gained_as r v w last st t client o stands same is none gained more =
-    more ∙ ap (λ (x : Run). gains x (step.Swap client ∷ [])) (gains_none v w client o none gained) ∙ ap (λ n. gains v (step.Swap n ∷ []))
-    (taker_as r v st t client stands same is)
+pub gained_as : {r : Run} {w last : Run} {st : Stores} (t : ℕ) {client : ℕ} {o : Option Decided} → Stands r st → client
+    ≡ taker_in (doing_in st.clients.places) t → None ≡ o → w ≡ gains r (hindered_steps client o)
+    → last ≡ gains w (step.Swap client ∷ []) → last ≡ gains r (step.Swap (taker (machine r) t) ∷ [])
+gained_as {r} {w} t {client} {o} stands is none gained more =
+    more ∙ ap (λ (x : Run). gains x (step.Swap client ∷ [])) (gains_none r client none gained) ∙ ap (λ n. gains r (step.Swap n ∷ []))
+    (taker_as t stands is)

@@ -8,7 +8,7 @@ use Rattle.kms_model.specs.Machine.State.{Machine, doing_at, has_value, place_at
 use Rattle.kms_model.specs.Machine.Steps.{is_taking, ticket_taking}
 use Rattle.kms_wwlock.specs.InStep.{AreClientsOf}
 use Rattle.kms_wwlock.specs.Standing.{Standing, IsClient, doing_in, place_of}
-use Rattle.kms_laws.proofs.Steps.{value-is}
+use Rattle.kms_model.proofs.Facts.{value-is}
 use Rattle.kms_track.specs.Places.{first_below}
 use Rattle.kms_track.proofs.PlaceLemmas.{first_same}
 use Rattle.kms_core.specs.Decisions.{number_or_0, taker, taker_at, taker_in}
@@ -24,10 +24,9 @@ same_taker m clients t stand =
       at : (p : ℕ) → place_of clients (p + 1) ≡ place_at m (p + 1) → taker_at (doing_in clients.places) t p ≡ taker_at (doing_at m) t p
       at p same = ap (λ (place : Place). if has_value t (ticket_taking place.doing) then Some (p + 1) else None) same
 
-pub taker_as : (r v : Run) (st : Stores) (t client : ℕ) → Stands r st → r ≡ v → client ≡ taker_in (doing_in st.clients.places) t → client
-    ≡ taker (machine v) t
-taker_as r v st t client stands same is = is ∙ same_taker (machine r) st.clients t stands.stores.clients ∙ ap
-    (λ (x : Run). taker (machine x) t) same
+pub taker_as : {r : Run} {st : Stores} (t : ℕ) {client : ℕ} → Stands r st → client ≡ taker_in (doing_in st.clients.places) t → client
+    ≡ taker (machine r) t
+taker_as {r} {st} t stands is = is ∙ same_taker (machine r) st.clients t stands.stores.clients
 
 -- where a first value was found
 pub record FoundAt (f : ℕ → Option ℕ) (n x : ℕ) : Type 0 where

@@ -37,11 +37,11 @@ use Rattle.kms_core.proofs.stores.Fresh.{tells_now}
 use Rattle.kms_core.proofs.Takers.{IsTaker, taker_as, takes}
 
 -- what a check was given is of the request in the present world
-pub of_request : (r : Run) (used : List (ℕ × Look)) (request : Request) (resolved : Resolved) (duplicates : Duplicates)
+pub of_request : {r : Run} {used : List (ℕ × Look)} {request : Request} {resolved : Resolved} {duplicates : Duplicates}
     → IsWellFormed r.script → is_history r.script r.steps ≡ true
     → TellsLabels (look_in used) (look_up (world r)) request.assigns → IsGiven r used request resolved duplicates
     → IsOfRequest r.script.topology (world r) request resolved duplicates
-of_request r used request resolved duplicates formed history told given = record {
+of_request {r} {used} {request} {resolved} formed history told given = record {
   device = formed.device;
   sound = (history_kept r.script r.steps (plain-from r.script formed) history).present.lawful.sound;
   numbered = (history_kept r.script r.steps (plain-from r.script formed) history).present.lawful.numbered;
@@ -55,9 +55,9 @@ pub record Decider (r : Run) (client : ℕ) (request : Request) : Type 0 where
   pub at : request_at r.script (machine r) client ≡ Some request
   pub going : (machine r).stalled ≡ false
 
-pub decider : (r : Run) (t : ℕ) (used : List (ℕ × Look)) (request : Request) → IsDeciding r t used request
+pub decider : {r : Run} {t : ℕ} {used : List (ℕ × Look)} {request : Request} → IsDeciding r t used request
     → Decider r (taker (machine r) t) request
-decider r t used request deciding = record {
+decider {r} {t} deciding = record {
   takes = takes (doing_at (machine r)) t deciding.client;
   at = deciding.at;
   going =
@@ -66,11 +66,11 @@ decider r t used request deciding = record {
 
 -- Refusals
 
-refuse_by : (r : Run) (client : ℕ) (request : Request) (why : Refusal) → Decider r client request
+refuse_by : {r : Run} {client : ℕ} {request : Request} (why : Refusal) → Decider r client request
     → may_refuse r.script.topology (machine r) client request ≡ true
     → verdict r.script.topology (world r) request ≡ Some why.0 → Decides r client (step.Refuse client) (reply.Refused why)
 unfolding legal may next refused
-refuse_by r client request why D may_be why_is = record {
+refuse_by {r} {client} {request} why D may_be why_is = record {
   number = D.takes.number;
   taking = D.takes.taking;
   legal = and_from _ _ (ap not D.going) (taking-from r.script (machine r) client (may_refuse r.script.topology (machine r) client) request
@@ -87,17 +87,17 @@ touched_held t m client request held =
     (λ object is. implied_from (touches t m.device.world request object) _
     (held object (list_any-has (λ n. n == object) (lockable t) object is (eq-eqb object object refl))))
 
-early_refuses : (r : Run) (client : ℕ) (request : Request) (why : Refusal) → Decider r client request
+early_refuses : {r : Run} {client : ℕ} {request : Request} (why : Refusal) → Decider r client request
     → early_in r.script.topology (world r) request ≡ Some why.0 → Decides r client (step.Refuse client) (reply.Refused why)
 unfolding may_refuse verdict
-early_refuses r client request why D is = refuse_by r client request why D (or_left _ _ (ap is_some is)) (rw is refl)
+early_refuses {r} {client} {request} why D is = refuse_by why D (or_left _ _ (ap is_some is)) (rw is refl)
 
 late_refuses : (r : Run) (client : ℕ) (request : Request) (why : Refusal) → Decider r client request
     → early_in r.script.topology (world r) request ≡ None → late_in r.script.topology (world r) request ≡ Some why.0
     → holds_touched r.script.topology (machine r) client request ≡ true → Decides r client (step.Refuse client) (reply.Refused why)
 unfolding may_refuse verdict
 late_refuses r client request why D none is held =
-    refuse_by r client request why D
+    refuse_by why D
     (or_right (is_some (early_in r.script.topology (world r) request)) _ (and_from _ _ held (or_left _ _ (ap is_some is))))
     (rw (none, is) refl)
 
@@ -109,24 +109,21 @@ refuses r t used why formed history fresh asked = by_due asked.due where
   told = tells_now (world r) asked.request used fresh asked.deciding.labels
 
   D : Decider r (taker (machine r) t) asked.request
-  D = decider r t used asked.request asked.deciding
+  D = decider asked.deciding
 
   by_due : (IsRefusedEarly r used asked.request why ⊎ IsRefusedLate r t used asked.request why)
       → Decides r (taker (machine r) t) (step.Refuse (taker (machine r) t)) (reply.Refused why)
-  by_due (inl early) = early_refuses r (taker (machine r) t) asked.request why D
+  by_due (inl early) = early_refuses why D
       (sym (early-same r.script.topology (look_in used) (look_up (world r)) asked.request told) ∙ early.first)
   by_due (inr late) =
-      let of = of_request r used asked.request late.resolved late.duplicates formed history told late.given in
+      let of = of_request formed history told late.given in
       late_refuses r (taker (machine r) t) asked.request why D of.asks.accepted (late.gives (world r) of)
       (touched_held r.script.topology (machine r) (taker (machine r) t) asked.request (late.holds (world r) of))
 
 -- as the call finds it
-pub refuses_as : (r v : Run) (st : Stores) (t : ℕ) (used : List (ℕ × Look)) (why : Refusal) (client : ℕ) → Stands r st → r ≡ v
-    → IsFirstStale (look_up (world v)) used None → MayRefuse v t used why
-    → client ≡ taker_in (doing_in st.clients.places) t → Decides v client (step.Refuse client) (reply.Refused why)
-refuses_as r v st t used why client stands same none asked is =
-    let now = subst (λ (x : Run). MayRefuse x t used why) (sym same) asked in
-    let done = refuses r t used why stands.formed stands.history
-    (subst (λ (x : Run). IsFirstStale (look_up (world x)) used None) (sym same) none) now in
-    let own = subst (λ n. Decides r n (step.Refuse n) (reply.Refused why)) (sym (taker_as r r st t client stands refl is)) done in
-    subst (λ (x : Run). Decides x client (step.Refuse client) (reply.Refused why)) same own
+pub refuses_as : {r : Run} {st : Stores} {t : ℕ} {used : List (ℕ × Look)} {why : Refusal} {client : ℕ} → Stands r st
+    → IsFirstStale (look_up (world r)) used None → MayRefuse r t used why
+    → client ≡ taker_in (doing_in st.clients.places) t → Decides r client (step.Refuse client) (reply.Refused why)
+refuses_as {r} {t} {used} {why} {client} stands none asked is =
+    let done = refuses r t used why stands.formed stands.history none asked in
+    subst (λ n. Decides r n (step.Refuse n) (reply.Refused why)) (sym (taker_as t stands is)) done

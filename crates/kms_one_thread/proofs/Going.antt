@@ -45,9 +45,6 @@ pub record IsGoing (old now : Run) (client left : ℕ) : Type 0 where
   pub on : ExtendsRun old now
   pub same : client_goes now.script left client (progress now) ≡ gone old client
 
-pub going_first : (old : Run) (client most : ℕ) → most ≡ most_of_turn old.script.topology → IsGoing old old client most
-going_first old client most is = record { on = stays old; same = ap (λ n. client_goes old.script n client (progress old)) is }
-
 pub going_none : (old now : Run) (client left : ℕ) → IsGoing old now client left → None ≡ client_step now.script (machine now) client
     → progress now ≡ gone old client
 going_none old now client left going none = sym (goes_none now.script left client (progress now) (sym none)) ∙ going.same

@@ -34,10 +34,6 @@ goes_then old now new on further = record {
   steps = further.steps ∙ ap (λ z. z ++ further.more) on.steps ∙ append_assoc old.steps on.more further.more;
 }
 
--- clients are as many as before
-pub same_clients : (old now : Run) → ExtendsRun old now → length now.script.clients ≡ length old.script.clients
-same_clients old now on = ap (λ (s : Script). length s.clients) on.script
-
 -- what a core's run comes to by a step
 pub progress_step : (now new : Run) (step : Step) → new ≡ gains now (step ∷ []) → progress new ≡ does now.script (progress now) step
 progress_step now new step after = ap (λ (r : Run). progress r) after ∙ run_does now.script now.steps step

@@ -18,9 +18,6 @@ pub record IsReplaying (old now : Run) (steps : List Step) (done : ℕ) : Type 0
   pub history : now ≡ gains old (take done steps)
   pub first : first_illegal now.script (machine now) (done + 1) (drop done steps) ≡ illegal_behind old steps
 
-pub replaying_first : (old : Run) (steps : List Step) → IsReplaying old old steps 0
-replaying_first old steps = record { history = ap (λ steps. record old { steps = steps }) (sym (append-nil old.steps)); first = refl }
-
 legal_first : (s : Script) (m : Machine) (place : ℕ) (step : Step) (steps : List Step) → legal s m step ≡ true
     → first_illegal s m place (step ∷ steps) ≡ first_illegal s (next s m step) (place + 1) steps
 unfolding first_illegal

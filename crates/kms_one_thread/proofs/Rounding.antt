@@ -31,9 +31,6 @@ pub record IsTurning (old now : Run) (place left : ℕ) : Type 0 where
   pub same : fold (turn now.script) (progress now) (range_with_len (place + 1) left)
       ≡ fold (turn old.script) (progress old) (client_numbers old.script)
 
-pub turning_first : (old : Run) (count : ℕ) → count ≡ length old.script.clients → IsTurning old old 0 count
-turning_first old count is = record { on = stays old; same = ap (λ n. fold (turn old.script) (progress old) (range_with_len 1 n)) is }
-
 pub turning_next : (old now new : Run) (place left left' : ℕ) → left ≡ suc left' → IsTurning old now place left → ExtendsRun now new
     → progress new ≡ turn now.script (progress now) (place + 1) → IsTurning old new (place + 1) left'
 turning_next old now new place left left' fewer turning on turned = record {

@@ -9,7 +9,6 @@ use Rattle.kms_model.specs.declared.replies.Answered.{Answered}
 use Rattle.kms_model.specs.declared.replies.Event.{Event}
 use Rattle.kms_model.specs.declared.replies.Reply.{Reply}
 use Rattle.kms_model.specs.declared.replies.Reply.TheVariants as reply
-use Rattle.kms_model.specs.declared.replies.Step.{Step}
 use Rattle.kms_model.specs.declared.replies.Step.TheVariants as step
 use Rattle.kms_model.specs.declared.scripts.Script.{Script}
 use Rattle.kms_model.specs.Machine.Effects.{next, reads, goes_on as client_goes_on}
@@ -23,60 +22,58 @@ use Rattle.kms_signal.specs.InStep.{IsQueueOf}
 use Rattle.kms_signal.specs.Queues.{Queue, after_read, empty_queue}
 use Rattle.kms_core.specs.Calls.{MayRead, answered, read_reply_at, read_reply, unless_ended}
 use Rattle.kms_core.specs.Logs.{Logged}
-use Rattle.kms_core.specs.Run.{Run, machine}
+use Rattle.kms_core.specs.Run.{Run, gains, machine}
 use Rattle.kms_core.specs.Stands.{Stores, Stands, StandsAt, AreQueues, AreRecords, queue_of}
 use Rattle.kms_core.proofs.stores.Beside.{stands_moved}
 use Rattle.kms_core.proofs.stores.Histories.{goes_on}
 use Rattle.kms_core.proofs.Places.{IsIdleAt, idle_there}
 use Rattle.kms_core.proofs.stores.Recorded.{records_answered}
 
-pub idle_reader : (r v : Run) (st : Stores) (client : ℕ) → Stands r st → r ≡ v → MayRead v client → IsIdleAt r st client is_wait
-idle_reader r v st client stands same now = idle_there r st client is_wait stands (subst (λ (w : Run). MayRead w client) (sym same) now)
+pub idle_reader : {r : Run} {st : Stores} (client : ℕ) → Stands r st → MayRead r client → IsIdleAt r st client is_wait
+idle_reader {r} {st} client stands now = idle_there client is_wait stands now
 
-pub has_queue : (r v : Run) (st : Stores) (client : ℕ) → Stands r st → r ≡ v → MayRead v client → client - 1 < length st.queues
-has_queue r v st client stands same now =
-    let there = idle_reader r v st client stands same now in
+pub has_queue : {r : Run} {st : Stores} (client : ℕ) → Stands r st → MayRead r client → client - 1 < length st.queues
+has_queue {r} {st} client stands now =
+    let there = idle_reader client stands now in
     let low = there.low in
     let high = there.high in
     let size = stands.stores.queues.size in
     omega (arith, low, high, size)
 
 -- what the client's queue tells is what the machine does while the history goes on
-pub reply_told : (r v : Run) (st : Stores) (client : ℕ) → Stands r st → r ≡ v → MayRead v client → st.stalled ≡ false
-    → read_reply (queue_of st.queues client).unread (queue_of st.queues client).reserved ≡ read_reply_at v client
-reply_told r v st client stands same now going =
-    let there = idle_reader r v st client stands same now in
+pub reply_told : {r : Run} {st : Stores} (client : ℕ) → Stands r st → MayRead r client → st.stalled ≡ false
+    → read_reply (queue_of st.queues client).unread (queue_of st.queues client).reserved ≡ read_reply_at r client
+reply_told {r} {st} client stands now going =
+    let there = idle_reader client stands now in
     let queue = stands.stores.queues.queue client there.low there.high in
     ap (λ events. read_reply events (queue_of st.queues client).reserved) queue.unread
     ∙ ap (λ n. read_reply (unread_at (machine r).events client) n) queue.reserved
     ∙ ap (λ b. unless_ended b (read_reply (unread_at (machine r).events client) (reserved_at (machine r).events client)))
     (sym (stands.stores.ended ∙ going))
-    ∙ ap (λ (w : Run). read_reply_at w client) same
 
 -- nothing is answered after its end
-pub none_told : (r v : Run) (st : Stores) (client : ℕ) → Stands r st → r ≡ v → st.stalled ≡ true → None ≡ read_reply_at v client
-none_told r v st client stands same ended =
+pub none_told : {r : Run} {st : Stores} (client : ℕ) → Stands r st → st.stalled ≡ true → None ≡ read_reply_at r client
+none_told {r} client stands ended =
     ap (λ b. unless_ended b (read_reply (unread_at (machine r).events client) (reserved_at (machine r).events client)))
     (sym (stands.stores.ended ∙ ended))
-    ∙ ap (λ (w : Run). read_reply_at w client) same
 
 -- the queue that is found at the client's place
-pub found_queue : (r v : Run) (st : Stores) (client : ℕ) (q d : Queue) → Stands r st → r ≡ v → MayRead v client → q
+pub found_queue : {r : Run} {st : Stores} (client : ℕ) {q : Queue} (d : Queue) → Stands r st → MayRead r client → q
     ≡ get_or st.queues (client - 1) d → q ≡ queue_of st.queues client
-found_queue r v st client q d stands same now is = is ∙ get_or_default st.queues (client - 1) d empty_queue
-    (has_queue r v st client stands same now)
+found_queue {r} {st} client d stands now is = is ∙ get_or_default st.queues (client - 1) d empty_queue
+    (has_queue client stands now)
 
-pub told_reply : (r v : Run) (st : Stores) (client : ℕ) (q d : Queue) → Stands r st → r ≡ v → MayRead v client → q
-    ≡ get_or st.queues (client - 1) d → st.stalled ≡ false → read_reply q.unread q.reserved ≡ read_reply_at v client
-told_reply r v st client q d stands same now is going = ap (λ (x : Queue). read_reply x.unread x.reserved)
-    (found_queue r v st client q d stands same now is) ∙ reply_told r v st client stands same now going
+pub told_reply : {r : Run} {st : Stores} (client : ℕ) (q d : Queue) → Stands r st → MayRead r client → q
+    ≡ get_or st.queues (client - 1) d → st.stalled ≡ false → read_reply q.unread q.reserved ≡ read_reply_at r client
+told_reply {r} {st} client q d stands now is going = ap (λ (x : Queue). read_reply x.unread x.reserved)
+    (found_queue client d stands now is) ∙ reply_told client stands now going
 
 -- a wait that is answered may be read
-may_read : (unread : List Event) (reserved : ℕ) (answer : Reply) → read_reply unread reserved ≡ Some answer
+may_read : (unread : List Event) (reserved : ℕ) {answer : Reply} → read_reply unread reserved ≡ Some answer
     → (nat_lt 0 (length unread) || (reserved == 0)) ≡ true
-may_read [] zero answer is = refl
-may_read [] (suc n) answer is = absurd cc
-may_read (event ∷ events) reserved answer is = rw (lt-ltb 0 (length (event ∷ events)) (omega arith)) refl
+may_read [] zero is = refl
+may_read [] (suc n) is = absurd cc
+may_read (event ∷ events) reserved is = rw (lt-ltb 0 (length (event ∷ events)) (omega arith)) refl
 
 -- the client's queue has an event less, and the others are as they were
 queues_read : (s : Script) (m : Machine) (client : ℕ) (queues : List Queue) → 1 ≤ client → client ≤ length s.clients
@@ -103,8 +100,8 @@ queues_read s m client queues low high stand = record {
 }
 
 -- all stores stand after a read
-read_stands : (s : Script) (m : Machine) (client : ℕ) (unread : List Event) (answer : Reply) (st : Stores) (clients : Standing)
-    (journal : Logged (ℕ × ℕ)) (replies : Logged Answered) (queues : List Queue) → read_reply unread (reserved_at m.events client)
+read_stands : {s : Script} {m : Machine} (client : ℕ) (unread : List Event) {answer : Reply} {st : Stores} {clients : Standing}
+    (journal : Logged (ℕ × ℕ)) (replies : Logged Answered) {queues : List Queue} → read_reply unread (reserved_at m.events client)
     ≡ Some answer
     → AreClientsOf (client_goes_on m client).contexts clients
     → AreRecords (record m.records {
@@ -113,11 +110,11 @@ read_stands : (s : Script) (m : Machine) (client : ℕ) (unread : List Event) (a
     }) journal.items replies.items st.latches.items
     → AreQueues (length s.clients) (reads m client unread).events queues → StandsAt s m st
     → StandsAt s (reads m client unread) (record st { clients = clients; journal = journal; replies = replies; queues = queues })
-read_stands s m client [] answer st clients journal replies queues is clients_stand recorded queues_stand stands =
-    stands_moved s m client (record m.records {
+read_stands {m} client [] {answer} {st} journal replies is clients_stand recorded queues_stand stands =
+    stands_moved client (record m.records {
       replies = answered client (place_at m client).command (length m.records.journal)
           reply.NoEvent ∷ m.records.replies;
-    }) m.device.world m.device.signalled m.events st clients journal replies st.made st.fences queues
+    }) journal replies st.made
     refl
     clients_stand (subst (λ a. AreRecords (record m.records
     { replies = answered client (place_at m client).command (length m.records.journal) a ∷ m.records.replies }) journal.items
@@ -127,14 +124,13 @@ read_stands s m client [] answer st clients journal replies queues is clients_st
     no_event : (reserved : ℕ) → read_reply [] reserved ≡ Some answer → answer ≡ reply.NoEvent
     no_event zero e = cc
     no_event (suc n) e = absurd cc
-read_stands s m client (event ∷ events) answer st clients journal replies queues is clients_stand recorded queues_stand stands =
+read_stands {m} client (event ∷ events) {answer} {st} journal replies is clients_stand recorded queues_stand stands =
     let same : answer ≡ reply.Event event = cc in
-    stands_moved s m client (record m.records {
+    stands_moved client (record m.records {
       replies = answered client (place_at m client).command (length m.records.journal)
           (reply.Event event) ∷ m.records.replies;
-    }) m.device.world m.device.signalled
-    (record m.events { unread = (client, events) ∷ m.events.unread; events_read = (client, event) ∷ m.events.events_read }) st clients
-    journal replies st.made st.fences queues refl
+    })
+    journal replies st.made refl
     clients_stand (subst (λ a. AreRecords (record m.records
     { replies = answered client (place_at m client).command (length m.records.journal) a ∷ m.records.replies }) journal.items
     replies.items st.latches.items) same recorded)
@@ -150,27 +146,23 @@ pub record HasRead (r : Run) (st : Stores) (client : ℕ) (answer : Reply) (clie
       ∷ []
   pub queues_after : queues ≡ slice_set st.queues (client - 1) (after_read (queue_of st.queues client))
 
-pub reads_event : (r v : Run) (st : Stores) (client : ℕ) (answer : Reply) (clients : Standing) (journal : Logged (ℕ × ℕ))
-    (replies : Logged Answered) (queues : List Queue) (before steps : List Step) → Stands r st → r ≡ v → MayRead v client → st.stalled
-    ≡ false
-    → HasRead r st client answer clients journal replies queues → before ≡ r.steps → steps ≡ before ++ step.Read client ∷ []
-    → Stands (record { script = r.script; steps = steps })
-    (record st { clients = clients; journal = journal; replies = replies; queues = queues })
+pub reads_event : {r w : Run} {st : Stores} (client : ℕ) (answer : Reply) (clients : Standing) (journal : Logged (ℕ × ℕ))
+    (replies : Logged Answered) (queues : List Queue) → Stands r st → MayRead r client → st.stalled ≡ false
+    → HasRead r st client answer clients journal replies queues → w ≡ gains r (step.Read client ∷ [])
+    → Stands w (record st { clients = clients; journal = journal; replies = replies; queues = queues })
 unfolding next legal may
-reads_event r v st client answer clients journal replies queues before steps stands same now going has is more =
+reads_event {r} {st = st} client answer clients journal replies queues stands asked going has more =
     let m = machine r in
-    let asked = subst (λ (w : Run). MayRead w client) (sym same) now in
-    let there = idle_reader r v st client stands same now in
+    let there = idle_reader client stands asked in
     let queue = stands.stores.queues.queue client there.low there.high in
     let told : read_reply (unread_at m.events client) (reserved_at m.events client) ≡ Some answer =
     sym (ap (λ events. read_reply events (queue_of st.queues client).reserved) queue.unread ∙ ap
     (λ n. read_reply (unread_at m.events client) n) queue.reserved) ∙ has.told in
-    goes_on r st (record st { clients = clients; journal = journal; replies = replies; queues = queues })
-    (step.Read client) refl refl refl steps (more ∙ ap (λ (xs : List Step). xs ++ step.Read client ∷ []) is) stands
+    goes_on (step.Read client) refl refl refl stands more
     (and_from (not m.stalled) _ (ap not (stands.stores.ended ∙ going))
-    (and_from _ _ asked (may_read (unread_at m.events client) (reserved_at m.events client) answer told)))
-    (read_stands r.script m client (unread_at m.events client) answer st clients journal replies queues told has.clients_stand
-    (records_answered m st client (place_of st.clients client).command answer journal.items replies.items has.journal_kept has.replies_more
+    (and_from _ _ asked (may_read (unread_at m.events client) (reserved_at m.events client) told)))
+    (read_stands client (unread_at m.events client) journal replies told has.clients_stand
+    (records_answered m st client answer journal.items has.journal_kept has.replies_more
     there.number stands.stores.recorded)
     (subst (λ qs. AreQueues (length r.script.clients) (next r.script m (step.Read client)).events qs) (sym has.queues_after)
     (queues_read r.script m client st.queues there.low there.high stands.stores.queues)) stands.stores)

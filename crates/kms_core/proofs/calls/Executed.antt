@@ -4,7 +4,6 @@ use Rattle.std.specs.Option.{option_and_then}
 use Rattle.kms_model.specs.declared.objects.Topology.{Topology}
 use Rattle.kms_model.specs.declared.replies.Answered.{Answered}
 use Rattle.kms_model.specs.declared.replies.Reply.{Reply}
-use Rattle.kms_model.specs.declared.replies.Step.{Step}
 use Rattle.kms_model.specs.declared.replies.Step.TheVariants as step
 use Rattle.kms_model.specs.declared.scripts.Command.{Command}
 use Rattle.kms_model.specs.declared.scripts.Command.TheVariants as command
@@ -35,7 +34,7 @@ use Rattle.kms_core.specs.Calls.{MayMake, answered, joined, reply_at, reply_to_c
 use Rattle.kms_core.specs.Logs.{Reserved}
 use Rattle.kms_core.specs.Needs.{Accounts, HasPlaceFor, MayAccount}
 use Rattle.kms_core.specs.Logs.{Logged}
-use Rattle.kms_core.specs.Run.{Run, machine}
+use Rattle.kms_core.specs.Run.{Run, gains, machine}
 use Rattle.kms_core.specs.Stands.{AreMadeFences, IsWorldOf, Stores, Stands, StandsAt}
 use Rattle.kms_core.proofs.stores.Beside.{moved, stands_moved}
 use Rattle.kms_core.proofs.stores.Fencing.{executed_fenced, executed_more, made_stand}
@@ -46,8 +45,8 @@ use Rattle.kms_core.proofs.stores.Recorded.{joined_if, joined_more, records_answ
 
 -- Commands
 
-pub fit_command : (s : Script) (e : Entry) (c : Command) → IsWellFormed s → command_of s e ≡ Some c → IsFitCommand c
-fit_command s e c formed is = go (from_one s.clients e.client) refl is where
+pub fit_command : {s : Script} (e : Entry) {c : Command} → IsWellFormed s → command_of s e ≡ Some c → IsFitCommand c
+fit_command {s} e {c} formed is = go (from_one s.clients e.client) refl is where
   go : (o : Option (List Command)) → from_one s.clients e.client ≡ o → option_and_then (λ commands. from_one commands e.command) o ≡ Some c
       → IsFitCommand c
   go None found is = absurd cc
@@ -68,10 +67,10 @@ no_request (command.Atomic r) e = absurd cc
 no_request command.Wait e = tt
 
 -- a command that is found under the number of the client's place is the one at which the client stands
-pub found_command : (r : Run) (st : Stores) (client number : ℕ) (test : Command → Bool) (o : Option Command) → IsIdleAt r st client test
+pub found_command : {r : Run} {st : Stores} {client number : ℕ} {test : Command → Bool} {o : Option Command} → IsIdleAt r st client test
     → number ≡ (place_of st.clients client).command
     → o ≡ command_of r.script (record { client = client; command = number }) → o ≡ command_at r.script (machine r) client
-found_command r st client number test o there same is = is ∙ ap (λ n. command_of r.script (record { client = client; command = n }))
+found_command {r} {client} there same is = is ∙ ap (λ n. command_of r.script (record { client = client; command = n }))
     (same ∙ there.number)
 
 -- such a command passes the test, and may be executed
@@ -80,50 +79,50 @@ pub record IsFound (r : Run) (st : Stores) (client : ℕ) (test : Command → Bo
   pub passes : test c ≡ true
   pub fit : IsFitCommand c
 
-pub is_found : (r : Run) (st : Stores) (client number : ℕ) (test : Command → Bool) (c : Command) → Stands r st → IsIdleAt r st client test
+pub is_found : {r : Run} {st : Stores} {client number : ℕ} {test : Command → Bool} {c : Command} → Stands r st → IsIdleAt r st client test
     → number ≡ (place_of st.clients client).command
     → Some c ≡ command_of r.script (record { client = client; command = number }) → IsFound r st client test c
-is_found r st client number test c stands there same is =
-    let at = sym (found_command r st client number test (Some c) there same is) in
+is_found {r} {st} {client} {number} {test} {c} stands there same is =
+    let at = sym (found_command there same is) in
     let one : Some there.command ≡ Some c = sym there.at ∙ at in
     let same_command : there.command ≡ c = cc in
     record {
       at = at;
       passes = subst (λ x. test x ≡ true) same_command there.passes;
-      fit = fit_command r.script
-          (record { client = client; command = number }) c stands.formed (sym is);
+      fit = fit_command
+          (record { client = client; command = number }) stands.formed (sym is);
     }
 
 -- one is found
-pub never_absent : (r : Run) (st : Stores) (client number : ℕ) (test : Command → Bool) → IsIdleAt r st client test → number
+pub never_absent : {r : Run} {st : Stores} {client number : ℕ} {test : Command → Bool} → IsIdleAt r st client test → number
     ≡ (place_of st.clients client).command → None ≡ command_of r.script (record { client = client; command = number }) → ⊥
-never_absent r st client number test there same is =
-    let none : None ≡ Some there.command = found_command r st client number test None there same is ∙ there.at in
+never_absent {r} {st} {client} {number} {test} there same is =
+    let none : None ≡ Some there.command = found_command there same is ∙ there.at in
     cc
 
 -- there are ids for the things of a command more
-pub has_ids : (r : Run) (st : Stores) → Stands r st → HasIds st.made
-has_ids r st stands =
+pub has_ids : {r : Run} {st : Stores} → Stands r st → HasIds st.made
+has_ids {r} stands =
     let fit = (numbers_fit r.script r.steps stands.formed stands.history).ids in
     let same = stands.stores.world.next_id in
     omega (arith, fit, same)
 
 -- A thing is made or closed
 
-pub idle_maker : (r v : Run) (st : Stores) (client : ℕ) → Stands r st → r ≡ v → MayMake v client → IsIdleAt r st client is_making
+pub idle_maker : {r : Run} {st : Stores} (client : ℕ) → Stands r st → MayMake r client → IsIdleAt r st client is_making
 unfolding legal may
-idle_maker r v st client stands same now = idle_there r st client is_making stands
-    (not_ended (machine r).stalled _ (subst (λ (w : Run). MayMake w client) (sym same) now))
+idle_maker {r} {st} client stands now = idle_there client is_making stands
+    (not_ended (machine r).stalled _ now)
 
 -- the world of the machine is that of the things
-pub world_of : (t : Topology) (w : World) (made : Made) (present : Duplicates) → IsWorldOf t w made present → with_made w made ≡ w
-world_of t w made present stands = λ i. record w { things = sym stands.things i; next_id = sym stands.next_id i }
+pub world_of : {t : Topology} {w : World} {made : Made} {present : Duplicates} → IsWorldOf t w made present → with_made w made ≡ w
+world_of {w} stands = λ i. record w { things = sym stands.things i; next_id = sym stands.next_id i }
 
-execution_is : (t : Topology) (w : World) (made new : Made) (present : Duplicates) (client : ℕ) (c : Command) (reply : Reply)
+execution_is : {t : Topology} {w : World} {made : Made} (new : Made) {present : Duplicates} (client : ℕ) (c : Command) (reply : Reply)
     → IsWorldOf t w made present
     → ((u : Topology) (v : World) → execute u (with_made v made) client c ≡ record { world = with_made v new; reply = reply })
     → execute t w client c ≡ record { world = with_made w new; reply = reply }
-execution_is t w made new present client c reply stands executed = ap (λ v. execute t v client c) (sym (world_of t w made present stands)) ∙
+execution_is {t} {w} {made} new {present} client c reply stands executed = ap (λ v. execute t v client c) (sym (world_of stands)) ∙
     executed t w
 
 executed_moved : (m : Machine) (client : ℕ) (reply : Reply) (v : World) (b : Bool)
@@ -151,29 +150,28 @@ pub record HasMade (r : Run) (st : Stores) (client : ℕ) (c : Command) (reply :
       ++ answered client (place_of st.clients client).command (length st.journal.items) reply ∷ []
   pub journal_more : journal.items ≡ joined st.journal.items (is_accepted reply) client (place_of st.clients client).command
 
-pub tells_reply : (r v : Run) (st : Stores) (client : ℕ) (c : Command) (made : Made) (reply : Reply) → Stands r st → r ≡ v
+pub tells_reply : {r : Run} {st : Stores} (client : ℕ) (c : Command) (made : Made) (reply : Reply) → Stands r st
     → command_at r.script (machine r) client ≡ Some c
     → ((t : Topology) (w : World) → execute t (with_made w st.made) client c ≡ record { world = with_made w made; reply = reply }) → reply
-    ≡ reply_at v client
-tells_reply r v st client c made reply stands same at executed =
-    sym (ap (λ (e : Executed). e.reply) (execution_is r.script.topology (machine r).device.world st.made made st.present client c reply
+    ≡ reply_at r client
+tells_reply {r} {st} client c made reply stands at executed =
+    sym (ap (λ (e : Executed). e.reply) (execution_is made client c reply
     stands.stores.world executed))
     ∙ ap (λ o. reply_to_command r.script.topology (machine r).device.world client o) (sym at)
-    ∙ ap (λ (w : Run). reply_at w client) same
 
-made_stands : (r : Run) (st : Stores) (client : ℕ) (c : Command) (reply : Reply) (clients : Standing) (journal : Logged (ℕ × ℕ))
-    (replies : Logged Answered) (made : Made) (fences : FenceSet) → Stands r st → IsIdleAt r st client is_making
+made_stands : {r : Run} {st : Stores} {client : ℕ} {c : Command} {reply : Reply} {clients : Standing} {journal : Logged (ℕ × ℕ)}
+    {replies : Logged Answered} {made : Made} {fences : FenceSet} → Stands r st → IsIdleAt r st client is_making
     → HasMade r st client c reply clients journal replies made fences
     → StandsAt r.script (next r.script (machine r) (step.Make client))
     (record st { clients = clients; journal = journal; replies = replies; made = made; fences = fences })
 unfolding next made_thing
-made_stands r st client c reply clients journal replies made fences stands there has =
+made_stands {r} {st} {client} {c} {reply} {clients} {journal} {replies} {made} {fences} stands there has =
     let m = machine r in
     let t = r.script.topology in
     let w = m.device.world in
     let holds = (history_kept r.script r.steps (plain-from r.script stands.formed) stands.history).present in
     let other = not_atomic c has.found.passes in
-    let is = execution_is t w st.made made st.present client c reply stands.stores.world has.executed_as in
+    let is = execution_is made client c reply stands.stores.world has.executed_as in
     let follows = execute_follows t w client c holds.lawful holds.kept
     ((plain-from r.script stands.formed).modes (record { client = client; command = (place_at m client).command }) c has.found.at) other
     in
@@ -184,12 +182,11 @@ made_stands r st client c reply clients journal replies made fences stands there
           ∷ m.records.replies;
     } in
     rw has.found.at (rw is (rw (executed_moved m client reply (with_made w made) (is_accepted reply))
-    (stands_moved r.script m client (joined_if records (is_accepted reply) client (place_at m client).command) (with_made w made)
-    m.device.signalled m.events st clients journal replies made fences st.queues
+    (stands_moved client (joined_if records (is_accepted reply) client (place_at m client).command) journal replies made
     (same_latches records (is_accepted reply) client (place_at m client).command) has.clients_stand
-    (rw (has.journal_more, there.number) (joined_more records st.journal.items replies.items st.latches.items (is_accepted reply) client
+    (rw (has.journal_more, there.number) (joined_more (is_accepted reply) client
     (place_at m client).command
-    (records_answered m st client (place_of st.clients client).command reply st.journal.items replies.items refl has.replies_more
+    (records_answered m st client reply st.journal.items refl has.replies_more
     there.number stands.stores.recorded)))
     (record {
       things = refl;
@@ -197,64 +194,60 @@ made_stands r st client c reply clients journal replies made fences stands there
       states = subst (λ (e : Executed). IsPresent t e.world st.present) is
           (present_seen t w (execute t w client c).world st.present follows.like.values follows.like.alike stands.stores.world.states);
     })
-    (made_stand w c m.device.signalled st.fences fences slots stands.stores.fenced stands.stores.fences)
+    (made_stand c fences slots stands.stores.fenced stands.stores.fences)
     (subst (λ (e : Executed). AreMadeFences e.world m.device.signalled fences) is
-    (executed_fenced t w client c m.device.signalled st.fences fences other slots stands.stores.fenced))
+    (executed_fenced t client c fences other slots stands.stores.fenced))
     (executed_more w.next_id c st.fences fences slots) stands.stores.queues stands.stores)))
 
-pub makes : (r v : Run) (st : Stores) (client : ℕ) (c : Command) (reply : Reply) (clients : Standing) (journal : Logged (ℕ × ℕ))
-    (replies : Logged Answered) (made : Made) (fences : FenceSet) (before steps : List Step) → Stands r st → r ≡ v → MayMake v client
-    → HasMade r st client c reply clients journal replies made fences → made.fbs ≡ fbs_after st.made client c → before ≡ r.steps
-    → steps ≡ before ++ step.Make client ∷ []
+pub makes : {r w : Run} {st : Stores} (client : ℕ) (c : Command) (reply : Reply) (clients : Standing) (journal : Logged (ℕ × ℕ))
+    (replies : Logged Answered) (made : Made) (fences : FenceSet) → Stands r st → MayMake r client
+    → HasMade r st client c reply clients journal replies made fences → made.fbs ≡ fbs_after st.made client c
+    → w ≡ gains r (step.Make client ∷ [])
     → (roomy freed : Reserved (ℕ × ℕ)) (left : Made) → roomy.items ≡ st.freed.items → roomy.places ≡ st.freed.places
-    → Accounts made left st.present st.registers st.tracker r.script.topology.crtcs c reply roomy freed
-    → Stands (record { script = r.script; steps = steps })
-    (record st { clients = clients; journal = journal; replies = replies; made = left; fences = fences; freed = freed })
-makes r v st client c reply clients journal replies made fences before steps stands same now has counted is more roomy freed left same_items
-    same_places accounts =
+    → {crtcs : ℕ} → crtcs ≡ r.script.topology.crtcs → Accounts made left st.present st.registers st.tracker crtcs c reply roomy freed
+    → Stands w (record st { clients = clients; journal = journal; replies = replies; made = left; fences = fences; freed = freed })
+makes {r} {st = st} client c reply clients journal replies made fences stands may has counted more roomy freed left same_items same_places
+    crtcs_are accounts_for =
+    let accounts = rw crtcs_are at accounts_for in
     let new : Stores = record st { clients = clients; journal = journal; replies = replies; made = made; fences = fences } in
     let n = next r.script (machine r) (step.Make client) in
-    let may = subst (λ (w : Run). MayMake w client) (sym same) now in
-    let told = ap (λ (e : Executed). e.reply) (execution_is r.script.topology (machine r).device.world st.made made st.present client c
+    let told = ap (λ (e : Executed). e.reply) (execution_is made client c
     reply stands.stores.world has.executed_as) in
-    let after = made_stands r st client c reply clients journal replies made fences stands (idle_maker r v st client stands same now) has in
+    let after = made_stands stands (idle_maker client stands may) has in
     let with_room : Stands r (record st { freed = roomy }) = record {
       formed = stands.formed;
       history = stands.history;
-      stores = with_freed r.script (machine r) st roomy stands.stores;
+      stores = with_freed roomy stands.stores;
       freed = same_freed r.script r.steps r.steps st.freed roomy refl same_items same_places stands.freed;
       stored = stands.stored;
     } in
     let kept = made_stored r
     (record st { freed = roomy }) client c reply with_room may has.found.at told new freed left after counted accounts in
-    goes_freeing r st (record new { freed = freed; made = left }) (step.Make client) steps
-    (more ∙ ap (λ (xs : List Step). xs ++ step.Make client ∷ []) is) stands may
+    goes_freeing (step.Make client) stands more may
     (subst (λ z. StandsAt r.script n (record new { freed = freed; made = z })) (sym kept.same)
-    (with_fbs r.script n (record new { freed = freed }) kept.fbs (with_freed r.script n new freed after)))
+    (with_fbs kept.fbs (with_freed freed after)))
     (made_freed r (record st { freed = roomy }) client c reply with_room may has.found.at told new freed left after accounts)
     (rw kept.same kept.stored)
 
 -- there is a place for a framebuffer that was closed
-pub place_for : (r v : Run) (st : Stores) (client : ℕ) (c : Command) (reply : Reply) (made : Made) → Stands r st → r ≡ v → MayMake v client
+pub place_for : {r : Run} {st : Stores} (client : ℕ) (c : Command) (reply : Reply) (made : Made) → Stands r st → MayMake r client
     → command_at r.script (machine r) client ≡ Some c
     → ((t : Topology) (w : World) → execute t (with_made w st.made) client c ≡ record { world = with_made w made; reply = reply })
     → HasPlaceFor made c reply st.freed.places
-place_for r v st client c reply made stands same now at executed_as =
-    let may = subst (λ (w : Run). MayMake w client) (sym same) now in
-    let executed_is = execution_is r.script.topology (machine r).device.world st.made made st.present client c reply stands.stores.world
+place_for {r} {st} client c reply made stands may at executed_as =
+    let executed_is = execution_is made client c reply stands.stores.world
     executed_as in
     closed_place r st client c reply stands may at (ap (λ (e : Executed). e.reply) executed_is) made
     (ap (λ (w : World). w.things) (world_after r st client c reply stands may at (ap (λ (e : Executed). e.reply) executed_is)) ∙ ap
     (λ (e : Executed). e.world.things) executed_is)
 
 -- and the framebuffer that was added or closed is in the store
-pub stored_for : (r v : Run) (st : Stores) (client : ℕ) (c : Command) (reply : Reply) (made : Made) → Stands r st → r ≡ v → MayMake v client
+pub stored_for : {r : Run} {st : Stores} (client : ℕ) (c : Command) (reply : Reply) (made : Made) → Stands r st → MayMake r client
     → command_at r.script (machine r) client ≡ Some c
     → ((t : Topology) (w : World) → execute t (with_made w st.made) client c ≡ record { world = with_made w made; reply = reply })
     → made.fbs ≡ fbs_after st.made client c → MayAccount made c reply
-stored_for r v st client c reply made stands same now at executed_as counted =
-    let may = subst (λ (w : Run). MayMake w client) (sym same) now in
-    let executed_is = execution_is r.script.topology (machine r).device.world st.made made st.present client c reply stands.stores.world
+stored_for {r} {st} client c reply made stands may at executed_as counted =
+    let executed_is = execution_is made client c reply stands.stores.world
     executed_as in
     may_account r st client c reply stands may at (ap (λ (e : Executed). e.reply) executed_is) made
     (ap (λ (w : World). w.things) (world_after r st client c reply stands may at (ap (λ (e : Executed). e.reply) executed_is))

@@ -36,9 +36,9 @@ in_slot states index wrap s there new = at (state_at states index) refl there wh
   at None e some = absurd cc
   at (Some both) e some = ap (λ x. Some (wrap x)) (new both (slot_at states index both e))
 
-pub stored : (t : Topology) (w : World) (d : Duplicates) (id : ℕ) → IsPresent t w d → first_id (kind_of id) ≤ id
+pub stored : {t : Topology} {w : World} {d : Duplicates} (id : ℕ) → IsPresent t w d → first_id (kind_of id) ≤ id
     → is_lockable t (kind_of id) (index_of id) ≡ true → stored_state d id ≡ Some (state_of_kind t w (kind_of id) id)
-stored t w d id present low lockable = of_kind (kind_of id) low lockable where
+stored {t} {w} {d} id present low lockable = of_kind (kind_of id) low lockable where
   of_kind : (kind : Kind) → first_id kind ≤ id → is_lockable t kind (id - first_id kind) ≡ true → stored_of_kind d kind (id - first_id kind)
       ≡ Some (state_of_kind t w kind id)
   of_kind Crtc low is =
@@ -63,8 +63,8 @@ pub record IsOnDevice (t : Topology) (id : ℕ) : Type 0 where
   pub is_id : first_id (kind_of id) ≤ id
   pub lockable : is_lockable t (kind_of id) (index_of id) ≡ true
 
-of_its_kind : (t : Topology) (kind : Kind) (id : ℕ) → (kind ≡ Enc → ⊥) → kind_of id ≡ kind → IsObject t kind id → IsOnDevice t id
-of_its_kind t kind id not_enc e is = record {
+of_its_kind : {t : Topology} {kind : Kind} {id : ℕ} → (kind ≡ Enc → ⊥) → kind_of id ≡ kind → IsObject t kind id → IsOnDevice t id
+of_its_kind {t} {kind} {id} not_enc e is = record {
   is_id = rw e (omega (arith, is.same));
   lockable = rw e (no_encoder kind not_enc (rw (is.same)
       (ap (λ n. nat_lt n (count_of t kind)) (omega arith) ∙ lt-ltb is.index (count_of t kind) is.within)));
@@ -78,9 +78,9 @@ of_its_kind t kind id not_enc e is = record {
 pub on_device : (t : Topology) (id : ℕ) → HasFewObjects t → IsIn id (lockable t) → IsOnDevice t id
 on_device t id few is =
     elim (in_either (ids_of t Crtc) (ids_of t Plane ++ ids_of t Conn) id is) [
-      | inl crtc ↦ of_its_kind t Crtc id (λ e. cc) (crtc_kind t id few crtc) (ids-in t Crtc id crtc)
+      | inl crtc ↦ of_its_kind (λ e. cc) (crtc_kind t id few crtc) (ids-in t Crtc id crtc)
       | inr rest ↦ elim (in_either (ids_of t Plane) (ids_of t Conn) id rest) [
-        | inl plane ↦ of_its_kind t Plane id (λ e. cc) (plane_kind t id few plane) (ids-in t Plane id plane)
-        | inr conn ↦ of_its_kind t Conn id (λ e. cc) (conn_kind t id few conn) (ids-in t Conn id conn)
+        | inl plane ↦ of_its_kind (λ e. cc) (plane_kind t id few plane) (ids-in t Plane id plane)
+        | inr conn ↦ of_its_kind (λ e. cc) (conn_kind t id few conn) (ids-in t Conn id conn)
       ]
     ]

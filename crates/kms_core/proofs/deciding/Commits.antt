@@ -1,8 +1,8 @@
 -- What a commit finds in the stores, and what it leaves.
 use Rattle.std.proofs.Common.{◌≡◌, ◌⊎◌, ℕ, zero, suc, ◌+◌, ◌*◌, ◌-◌, ◌<◌, ◌≤◌, Bool, true, false, List, [], ◌∷◌, ◌++◌, length, map, take}
 use Rattle.std.proofs.Common.{Option, Some, None, inl, inr, refl, sym, ap, ◌∙◌, subst, arith, ⊎_elim}
-use Rattle.std.specs.Prelude.{◌&&◌, IsSome, not, nat_lt, reverse, slice_index_or, slice_set, if◌then◌else◌}
-use Rattle.std.proofs.lemmas.Bool.{and_parts, cases_lt, false≢true, lt-ltb}
+use Rattle.std.specs.Prelude.{◌&&◌, IsSome, nat_lt, reverse, slice_index_or, slice_set, if◌then◌else◌}
+use Rattle.std.proofs.lemmas.Bool.{cases_lt, false≢true, lt-ltb}
 use Rattle.std.proofs.lemmas.Bool.Decides.{eqb_tells}
 use Rattle.std.proofs.lemmas.List.{get_or_default, get_or-set_same, get_or-set_other, length-set}
 use Rattle.kms_model.specs.declared.objects.Kind.TheVariants.{Crtc}
@@ -27,33 +27,32 @@ use Rattle.kms_model.specs.Device.Serial.{Entry, command_of}
 use Rattle.kms_model.specs.Device.World.{start, thing_labelled}
 use Rattle.kms_model.specs.Machine.Commits.{id_of_thing, out_fence_of, thing_made}
 use Rattle.kms_model.specs.Machine.Effects.{next}
-use Rattle.kms_model.specs.Machine.Histories.{legal}
 use Rattle.kms_model.specs.Machine.Registers.{read}
 use Rattle.kms_model.specs.Machine.State.{Commit, Events, Machine, Records, doing_at, place_at, request_in}
-use Rattle.kms_model.specs.Machine.Steps.{lacks_space, may, may_swap, space_used}
+use Rattle.kms_model.specs.Machine.Steps.{lacks_space, may_swap, space_used}
 use Rattle.kms_model.specs.Request.Apply.{after}
 use Rattle.kms_model.specs.Request.Flags.{is_nonblock, wants_event}
 use Rattle.kms_model.specs.Request.Lookups.{look_up}
 use Rattle.kms_model.specs.Request.Named.{named, names}
 use Rattle.kms_model.specs.Request.Touched.{out_fence_label}
+use Rattle.kms_model.proofs.Guards.{IsSwapping, legal_guards, swap_guards, taking_passes}
 use Rattle.kms_model.proofs.Items.{IsIn}
 use Rattle.kms_model.proofs.TouchedLemmas.{IsRequestAt, few_objects}
 use Rattle.kms_model.proofs.CommitFacts.{commit_old, commit_new}
 use Rattle.kms_wwlock.specs.InStep.{AreClientsOf, after_decision, after_swap}
 use Rattle.kms_wwlock.specs.Standing.{Standing, place_of}
-use Rattle.kms_laws.proofs.EachStep.{IsSwap, swap-found}
 use Rattle.kms_laws.proofs.Fitting.{taking-busy}
 use Rattle.kms_laws.proofs.Modes.{plain-from}
 use Rattle.kms_laws.proofs.Present.{reverse_more}
 use Rattle.kms_laws.proofs.Sizes.{answered as answered_by, ended_at}
 use Rattle.kms_laws.proofs.SmallNumbers.{numbers_fit}
-use Rattle.kms_laws.proofs.Steps.{Holds, history_kept, request-is, taking-some}
+use Rattle.kms_laws.proofs.Steps.{Holds, history_kept, request-is}
 use Rattle.kms_regs.proofs.MachineEffects.{others_follow}
 use Rattle.kms_signal.proofs.StepLemmas.{queues_follow_others_swap, queues_follow_swap}
 use Rattle.kms_signal.specs.FenceSets.{FenceSet, is_made}
 use Rattle.kms_signal.specs.InStep.{IsQueueOf}
 use Rattle.kms_signal.specs.Queues.{HasSpace, Queue, empty_queue}
-use Rattle.kms_signal.specs.StepLaws.{new_commit, swapped_queue}
+use Rattle.kms_signal.specs.StepLaws.{new_commit}
 use Rattle.kms_track.specs.declared.tail.Signals.{Signals}
 use Rattle.kms_track.specs.InStep.{AreSignalsOf, IsInStep, out_fence_at}
 use Rattle.kms_track.proofs.SettingUp.{room_stands}
@@ -63,7 +62,7 @@ use Rattle.kms_track.proofs.StepLemmas.{swap_follows}
 use Rattle.kms_track.specs.Tracking.{IsSetUp, Tracking}
 use Rattle.kms_core.specs.Calls.{answered}
 use Rattle.kms_core.specs.Logs.{Logged}
-use Rattle.kms_core.specs.Run.{Run, machine}
+use Rattle.kms_core.specs.Run.{Run, gains, machine}
 use Rattle.kms_core.specs.Decisions.{world}
 use Rattle.kms_core.specs.SwappedIn.{IsSwappedIn, events_asked_for, fences_for, fences_under, id_made_under, label_in, labels_in}
 use Rattle.kms_core.specs.SwappedIn.{signals_for}
@@ -102,14 +101,15 @@ in_reverse (x ∷ xs) e is = ⊎_elim (λ there. inr (in_reverse xs e there)) (�
 -- Want of memory: stores with other room stand as well
 
 -- a queue with other room is a client's as well
-queue_same : (q new : Queue) (events : Events) (client : ℕ) → new.reserved ≡ q.reserved → new.unread ≡ q.unread → IsQueueOf q events client
+queue_same : {q : Queue} (new : Queue) {events : Events} {client : ℕ} → new.reserved ≡ q.reserved → new.unread ≡ q.unread → IsQueueOf q
+    events client
     → IsQueueOf new events client
-queue_same q new events client reserved unread is = record { reserved = reserved ∙ is.reserved; unread = unread ∙ is.unread }
+queue_same new reserved unread is = record { reserved = reserved ∙ is.reserved; unread = unread ∙ is.unread }
 
-pub queues_same : (clients : ℕ) (events : Events) (client : ℕ) (queues : List Queue) (new : Queue) → 1 ≤ client → client ≤ clients
+pub queues_same : {clients : ℕ} {events : Events} (client : ℕ) {queues : List Queue} (new : Queue) → 1 ≤ client → client ≤ clients
     → new.reserved ≡ (queue_of queues client).reserved → new.unread ≡ (queue_of queues client).unread
     → AreQueues clients events queues → AreQueues clients events (slice_set queues (client - 1) new)
-queues_same clients events client queues new low high reserved unread stand = record {
+queues_same {events} client {queues} new low high reserved unread stand = record {
   size = length-set queues (client - 1) new ∙ stand.size;
   queue = λ other from to.
       elim (eqb_tells client other) [
@@ -117,7 +117,7 @@ queues_same clients events client queues new low high reserved unread stand = re
             subst (λ n. IsQueueOf (queue_of (slice_set queues (client - 1) new) n) events n) same.1
             (subst (λ q. IsQueueOf q events client) (sym
             (get_or-set_same queues (client - 1) new empty_queue (omega (arith, size, low, high))))
-            (queue_same (queue_of queues client) new events client reserved unread (stand.queue client low high))))
+            (queue_same new reserved unread (stand.queue client low high))))
         | inr different ↦
             subst (λ q. IsQueueOf q events other) (sym
             (get_or-set_other queues (client - 1) (other - 1) new empty_queue (λ e. different.1 (omega (arith, e, low, from)))))
@@ -126,9 +126,9 @@ queues_same clients events client queues new low high reserved unread stand = re
 }
 
 -- a commit is set up with other room as well
-pub set_up_same : (old middle new : Tracking) (signals : Signals) (checked : Checked) (fences : List ℕ) → SameTracking old middle
+pub set_up_same : {old middle new : Tracking} {signals : Signals} {checked : Checked} {fences : List ℕ} → SameTracking old middle
     → IsSetUp middle new signals checked fences → IsSetUp old new signals checked fences
-set_up_same old middle new signals checked fences same up = record {
+set_up_same same up = record {
   count = up.count ∙ ap (λ n. n + 1) same.count;
   lasts = rw (← same.lasts, ← same.count) up.lasts;
   previous = up.previous;
@@ -141,24 +141,24 @@ set_up_same old middle new signals checked fences same up = record {
 -- What a commit finds
 
 -- as the call finds it
-pub may_now : (r v : Run) (client : ℕ) (checked : Checked) (resolved : Resolved) → r ≡ v → MayCommit v client checked resolved
+pub may_now : {r v : Run} {client : ℕ} {checked : Checked} {resolved : Resolved} → r ≡ v → MayCommit v client checked resolved
     → MayCommit r client checked resolved
-may_now r v client checked resolved same can = subst (λ (x : Run). MayCommit x client checked resolved) (sym same) can
+may_now {client = client} {checked} {resolved} same can = subst (λ (x : Run). MayCommit x client checked resolved) (sym same) can
 
-module _ (r : Run) (st : Stores) (client : ℕ) (checked : Checked) (resolved : Resolved) (stands : Stands r st)
+module _ {r : Run} {st : Stores} {client : ℕ} {checked : Checked} {resolved : Resolved} (stands : Stands r st)
     (can : MayCommit r client checked resolved) where
   pub own : OwnQueue r st client
-  own = own_queue r st client checked resolved.flags can.ready stands
+  own = own_queue can.ready stands
 
   pub high : client ≤ length r.script.clients
   high = (let size = stands.stores.queues.size in let within = own.within in let low = own.low in omega (arith, size, within, low))
 
   -- the queue at the client's index
-  pub found_queue : (q d : Queue) → q ≡ slice_index_or st.queues (client - 1) d → q ≡ queue_of st.queues client
-  found_queue q d is = is ∙ get_or_default st.queues (client - 1) d empty_queue own.within
+  pub found_queue : {q : Queue} (d : Queue) → q ≡ slice_index_or st.queues (client - 1) d → q ≡ queue_of st.queues client
+  found_queue d is = is ∙ get_or_default st.queues (client - 1) d empty_queue own.within
 
   pub decider : MayDecide client st.clients
-  decider = may_decide r st client stands can.ready.number can.ready.taking
+  decider = may_decide client stands can.ready.number can.ready.taking
 
   pub has_ids : HasIds st.made
   has_ids = (let fit = (numbers_fit r.script r.steps stands.formed stands.history).ids in let same = stands.stores.world.next_id
@@ -179,12 +179,10 @@ module _ (r : Run) (st : Stores) (client : ℕ) (checked : Checked) (resolved : 
       let same = is ∙ ap (λ (p : Place). p.command) (stands.stores.clients.places client can.ready.number) in
       rw (ap (λ n. request_in (command_of r.script (record { client = client; command = n }))) same ∙ can.ready.at) refl
 
-  swap : IsSwap r.script.topology (machine r) client can.ready.request
-  unfolding legal may
-  swap =
-      swap-found r.script.topology (machine r) client can.ready.request
-      (taking-some r.script (machine r) client (may_swap r.script.topology (machine r) client) can.ready.request can.ready.at
-      (and_parts (not (machine r).stalled) _ can.legal).1)
+  swap : IsSwapping r.script.topology (machine r) client can.ready.request
+  swap = swap_guards r.script.topology (machine r) client can.ready.request
+      (taking_passes r.script (machine r) client (may_swap r.script.topology (machine r) client)
+      (legal_guards r.script (machine r) (step.Swap client) can.legal) can.ready.request can.ready.at)
 
   -- as many events as the machine reserves
   pub events_named : (if wants_event can.ready.request.flags then length (named r.script.topology (world r) can.ready.request) else 0)
@@ -216,9 +214,9 @@ module _ (r : Run) (st : Stores) (client : ℕ) (checked : Checked) (resolved : 
   pub again : (new q d : Queue) → q ≡ slice_index_or (slice_set st.queues (client - 1) new) (client - 1) d → q ≡ new
   again new q d is = is ∙ get_or-set_same st.queues (client - 1) new d own.within
 
-  pub space_again : (q : Queue) (events : ℕ) → events ≡ events_asked_for resolved.flags checked.named → q.reserved
+  pub space_again : (q : Queue) {events : ℕ} → events ≡ events_asked_for resolved.flags checked.named → q.reserved
       ≡ (queue_of st.queues client).reserved → q.unread ≡ (queue_of st.queues client).unread → HasSpace q events
-  space_again q events is reserved unread = rw (is, reserved, unread) has_space
+  space_again q is reserved unread = rw (is, reserved, unread) has_space
 
   pub labels_are : take r.script.topology.crtcs (labels_in resolved.out_fences)
       ≡ map (out_fence_label can.ready.request.assigns) (ids_of r.script.topology Crtc)
@@ -227,8 +225,9 @@ module _ (r : Run) (st : Stores) (client : ℕ) (checked : Checked) (resolved : 
 
   -- Want of memory
 
-  pub roomy : (journal : Logged (ℕ × ℕ)) (replies : Logged Answered) (shown : Logged Latch) (made : Made) (fences roomy_fences : FenceSet)
-      (was d queue : Queue) (tracker : Tracking) (steps : List Step)
+  pub roomy : (journal : Logged (ℕ × ℕ)) (replies : Logged Answered) (shown : Logged Latch) (made : Made) (fences : FenceSet) {roomy_fences
+      : FenceSet}
+      {was : Queue} (d : Queue) {queue : Queue} {tracker : Tracking} {steps : List Step}
       → steps ≡ r.steps → journal.items ≡ st.journal.items → replies.items ≡ st.replies.items → shown.items ≡ st.latches.items → made
       ≡ st.made → fences.slots ≡ roomy_fences.slots
       → was ≡ slice_index_or st.queues (client - 1) d → KeepsStored st.fences roomy_fences was queue st.tracker tracker
@@ -243,12 +242,11 @@ module _ (r : Run) (st : Stores) (client : ℕ) (checked : Checked) (resolved : 
             (client - 1) queue;
         tracker = tracker;
       })
-  roomy journal replies shown made fences roomy_fences was d queue tracker steps is same_journal same_replies same_shown
-      same_made same_set at kept =
-      let mine = found_queue was d at in
+  roomy journal replies shown made fences {was} d {queue} {tracker} is same_journal same_replies same_shown same_made same_set at kept =
+      let mine = found_queue d at in
       let same_tracker = kept.tracking in
       let base =
-      stands_with_room r (record st { latches = shown }) journal replies made fences steps (with_latches r st shown stands same_shown) is
+      stands_with_room journal replies made fences (with_latches shown stands same_shown) is
       same_journal same_replies same_made (same_set ∙ kept.fences) st.freed refl refl in
       record {
         formed = base.formed;
@@ -262,7 +260,7 @@ module _ (r : Run) (st : Stores) (client : ℕ) (checked : Checked) (resolved : 
           fences = base.stores.fences;
           fenced = base.stores.fenced;
           out_fenced = base.stores.out_fenced;
-          queues = rw is (queues_same (length r.script.clients) (machine r).events client st.queues queue own.low high
+          queues = rw is (queues_same client queue own.low high
               (kept.reserved ∙ ap (λ (q : Queue). q.reserved) mine) (kept.unread ∙ ap (λ (q : Queue). q.unread) mine) stands.stores.queues);
           tracker =
               rw is (room_stands r.script.topology (machine r).device.commits (machine r).device.marks
@@ -301,8 +299,7 @@ module _ (r : Run) (st : Stores) (client : ℕ) (checked : Checked) (resolved : 
               n) same.1
               (subst (λ x. IsQueueOf x (next r.script (machine r) (step.Swap client)).events client)
               (sym (get_or-set_same queues (client - 1) new empty_queue (omega (arith, size, own.low, high))))
-              (queue_same (swapped_queue r.script.topology (machine r) can.ready.request 0 (queue_of queues client)) new
-              (next r.script (machine r) (step.Swap client)).events client
+              (queue_same new
               (reserved ∙ ap (λ n. (queue_of queues client).reserved + n) (sym events_named) ∙ sym
               (reserved_more (queue_of queues client) (wants_event can.ready.request.flags)
               (length (named r.script.topology (world r) can.ready.request))))
@@ -341,7 +338,7 @@ pub record HasCommitted (r : Run) (st : Stores) (client : ℕ) (checked : Checke
       → IsSetUp st.tracker tracker (signals_for client q (fences_under made.things (labels_in resolved.out_fences))) checked
       (map (λ f. f.1) resolved.in_fences)
 
-module _ (r : Run) (st : Stores) (client : ℕ) (checked : Checked) (resolved : Resolved) (stands : Stands r st)
+module _ {r : Run} {st : Stores} {client : ℕ} {checked : Checked} {resolved : Resolved} (stands : Stands r st)
     (can : MayCommit r client checked resolved)
     (commit : ℕ) (clients : Standing) (journal : Logged (ℕ × ℕ)) (replies : Logged Answered) (made : Made) (present : Duplicates)
     (fences : FenceSet) (queues : List Queue) (queue : Queue) (tracker : Tracking)
@@ -366,7 +363,7 @@ module _ (r : Run) (st : Stores) (client : ℕ) (checked : Checked) (resolved : 
 
   asked : take r.script.topology.crtcs (labels_in resolved.out_fences)
       ≡ map (out_fence_label can.ready.request.assigns) (ids_of r.script.topology Crtc)
-  asked = labels_are r st client checked resolved stands can
+  asked = labels_are stands can
 
   world_is : (committed r.script.topology (world r) client can.ready.request).world ≡ with_made old made
   world_is =
@@ -389,9 +386,9 @@ module _ (r : Run) (st : Stores) (client : ℕ) (checked : Checked) (resolved : 
             (reply.Commit commit) ∷ m.records.replies;
       } in
       let one : AreRecords records st.journal.items replies.items st.latches.items =
-      records_answered m st client (place_of st.clients client).command (reply.Commit commit) st.journal.items replies.items refl
+      records_answered m st client (reply.Commit commit) st.journal.items refl
       has.replies_more same_command stands.stores.recorded in
-      let two = joined_more records st.journal.items replies.items st.latches.items true client (place_at m client).command one in
+      let two = joined_more true client (place_at m client).command one in
       record {
         accepted = has.journal_more ∙ ap (λ n. st.journal.items ++ (client, n) ∷ []) same_command ∙ two.accepted ∙ ap
             (λ xs. map entry_pair (reverse xs)) (sym left.journal);
@@ -407,7 +404,7 @@ module _ (r : Run) (st : Stores) (client : ℕ) (checked : Checked) (resolved : 
     things = ap (λ (x : World). x.things) (left.world ∙ world_is);
     next_id = ap (λ (x : World). x.next_id) (left.world ∙ world_is);
     states = rw left.world (committed_present r.script.topology (world r) can.ready.request at checked can.ready.checked_as can.states
-        client st.present present holds.present.lawful.numbered can.ready.none holds.present.kept
+        client holds.present.lawful.numbered can.ready.none holds.present.kept
         stands.stores.world.states has.present_swapped);
   }
 
@@ -438,8 +435,7 @@ module _ (r : Run) (st : Stores) (client : ℕ) (checked : Checked) (resolved : 
 
   label_is : (i : ℕ) → i < 4 → label_in resolved.out_fences (object_id Crtc i)
       ≡ out_fence_label can.ready.request.assigns (object_id Crtc i)
-  label_is i low = ap (λ asks. label_in asks (object_id Crtc i)) can.asks.out_fences ∙ label_at_crtc r.script.topology (world r)
-      can.ready.request i at low
+  label_is i low = ap (λ asks. label_in asks (object_id Crtc i)) can.asks.out_fences ∙ label_at_crtc i at low
 
   id_at : (i : ℕ) → i < 4 → id_made_under made.things (label_in resolved.out_fences (object_id Crtc i))
       ≡ out_fence_at r.script.topology swapped i
@@ -526,10 +522,11 @@ module _ (r : Run) (st : Stores) (client : ℕ) (checked : Checked) (resolved : 
         go (Some u) found is =
             let same : u.id ≡ id = cc in
             subst (λ n. is_made fences n ≡ true) same
-            (thing_under fences (committed r.script.topology (world r) client can.ready.request).world.things label u fences_stand.fenced.made
+            (thing_under fences (committed r.script.topology (world r) client can.ready.request).world.things label u
+            fences_stand.fenced.made
             found
             (⊎_elim (λ earlier. (let none : None ≡ Some u = sym (unmade crtc label asks) ∙ earlier in absurd cc)) (λ out. ap is_fence out)
-            (found_or_made client can.ready.request.assigns old (ids_of r.script.topology Crtc) label u found)))
+            (found_or_made client can.ready.request.assigns old (ids_of r.script.topology Crtc) label found)))
 
   out_fences_made_now : AreOutFencesMade r.script.topology (swapped ∷ (machine r).device.commits) fences
   out_fences_made_now k index id low few is =
@@ -563,7 +560,7 @@ module _ (r : Run) (st : Stores) (client : ℕ) (checked : Checked) (resolved : 
     world = world_stands;
     fences = rw left.signalled fences_stand.stand;
     fenced = rw (left.world, left.signalled) fences_stand.fenced;
-    queues = queues_committed r st client checked resolved stands can queues queue has.queues_stand has.reserved has.unread;
+    queues = queues_committed stands can queues queue has.queues_stand has.reserved has.unread;
     out_fenced = out_fences_stand;
     tracker = tracked;
     registers = others_follow r.script (machine r) (step.Swap client) st.registers refl stands.stores.registers;
@@ -575,9 +572,8 @@ module _ (r : Run) (st : Stores) (client : ℕ) (checked : Checked) (resolved : 
     ended = left.stalled ∙ stands.stores.ended;
   }
 
-  pub commits : (before steps : List Step) → before ≡ r.steps → steps ≡ before ++ step.Swap client ∷ []
-      → Stands (record { script = r.script; steps = steps })
-      (record st {
+  pub commits : {w : Run} → w ≡ gains r (step.Swap client ∷ [])
+      → Stands w (record st {
         clients = clients;
         journal = journal;
         replies = replies;
@@ -587,15 +583,5 @@ module _ (r : Run) (st : Stores) (client : ℕ) (checked : Checked) (resolved : 
         queues = slice_set queues (client - 1) queue;
         tracker = tracker;
       })
-  commits before steps is more =
-      goes_on r st (record st {
-        clients = clients;
-        journal = journal;
-        replies = replies;
-        made = made;
-        present = present;
-        fences = fences;
-        queues = slice_set queues (client - 1) queue;
-        tracker = tracker;
-      }) (step.Swap client) refl refl has.counted steps
-      (more ∙ ap (λ (xs : List Step). xs ++ step.Swap client ∷ []) is) stands can.legal committed_stands
+  commits more =
+      goes_on (step.Swap client) refl refl has.counted stands more can.legal committed_stands

@@ -27,8 +27,8 @@ pub record FencesStand (w : World) (signalled : List ℕ) (fences : FenceSet) : 
 out_fence_made : (client : ℕ) (w : World) (label : ℕ) (signalled : List ℕ) (old new : FenceSet) → new.slots ≡ old.slots
     ++ slot w.next_id false ∷ [] → FencesStand w signalled old → FencesStand (make_out_fence client w (Some label)) signalled new
 out_fence_made client w label signalled old new is was = record {
-  fenced = fence_fenced w client label content.OutFence signalled old new is was.fenced;
-  stand = fence_made old new signalled w.next_id was.stand is (fresh w signalled old was.fenced);
+  fenced = fence_fenced client label content.OutFence new is was.fenced;
+  stand = fence_made old new signalled w.next_id was.stand is (fresh was.fenced);
 }
 
 pub out_fences_made : (client : ℕ) (assigns : List Assign) (w : World) (crtcs : List ℕ) (signalled : List ℕ) (old new : FenceSet)
@@ -36,7 +36,7 @@ pub out_fences_made : (client : ℕ) (assigns : List Assign) (w : World) (crtcs 
     → FencesStand (make_out_fences client assigns w crtcs) signalled new
 out_fences_made client assigns w [] signalled old new is was =
     let same : new.slots ≡ old.slots = is ∙ append-nil old.slots in
-    record { fenced = same_slots w signalled old new same was.fenced; stand = same_fences signalled old new same was.stand }
+    record { fenced = same_slots new same was.fenced; stand = same_fences new same was.stand }
 out_fences_made client assigns w (crtc ∷ crtcs) signalled old new is was =
     by_label (out_fence_label assigns crtc) refl (λ v from made stands. out_fences_made client assigns v crtcs signalled from new made
     stands) where
@@ -77,13 +77,13 @@ push_found (y ∷ ys) x label u found =
       | inr away ↦ rw away (push_found ys x label u (rw away at found))
     ]
 
-pub found_or_made : (client : ℕ) (assigns : List Assign) (w : World) (crtcs : List ℕ) (label : ℕ) (u : Thing)
+pub found_or_made : (client : ℕ) (assigns : List Assign) (w : World) (crtcs : List ℕ) (label : ℕ) {u : Thing}
     → thing_labelled (make_out_fences client assigns w crtcs).things label ≡ Some u
     → (thing_labelled w.things label ≡ Some u) ⊎ (u.content ≡ content.OutFence)
-found_or_made client assigns w [] label u found = inl found
-found_or_made client assigns w (crtc ∷ crtcs) label u found =
+found_or_made client assigns w [] label found = inl found
+found_or_made client assigns w (crtc ∷ crtcs) label {u} found =
     ⊎_elim (λ earlier. by_label (out_fence_label assigns crtc) earlier) (λ out. inr out)
-    (found_or_made client assigns (make_out_fence client w (out_fence_label assigns crtc)) crtcs label u found) where
+    (found_or_made client assigns (make_out_fence client w (out_fence_label assigns crtc)) crtcs label found) where
       by_label : (o : Option ℕ) → thing_labelled (make_out_fence client w o).things label ≡ Some u
           → (thing_labelled w.things label ≡ Some u) ⊎ (u.content ≡ content.OutFence)
       by_label None there = inl there

@@ -107,9 +107,9 @@ labels_of_crtcs t assigns few = first_labels (out_fence_label assigns) t.crtcs f
 -- A label at any place
 
 -- an accepted request asks for an out-fence of a CRTC of the device alone
-no_label : (t : Topology) (w : World) (r : Request) (i : ℕ) → IsRequestAt t w r → i < 4 → t.crtcs ≤ i
+no_label : {t : Topology} {w : World} {r : Request} (i : ℕ) → IsRequestAt t w r → i < 4 → t.crtcs ≤ i
     → out_fence_label r.assigns (object_id Crtc i) ≡ None
-no_label t w r i at low above = go (last_value r.assigns (object_id Crtc i) OUT_FENCE_PTR) refl where
+no_label {t} {w} {r} i at low above = go (last_value r.assigns (object_id Crtc i) OUT_FENCE_PTR) refl where
   go : (o : Option Value) → last_value r.assigns (object_id Crtc i) OUT_FENCE_PTR ≡ o → new_label o ≡ None
   go None is = refl
   go (Some v) is =
@@ -125,12 +125,12 @@ no_label t w r i at low above = go (last_value r.assigns (object_id Crtc i) OUT_
       let within : by.item.index < t.crtcs = subst (λ (k : Kind). by.item.index < count_of t k) kind below in
       absurd (omega (arith, place, within, above))
 
-pub label_at_crtc : (t : Topology) (w : World) (r : Request) (i : ℕ) → IsRequestAt t w r → i < 4
+pub label_at_crtc : {t : Topology} {w : World} {r : Request} (i : ℕ) → IsRequestAt t w r → i < 4
     → label_in (out_fences t r.assigns) (object_id Crtc i) ≡ out_fence_label r.assigns (object_id Crtc i)
 unfolding out_fences
-label_at_crtc t w r i at low =
+label_at_crtc {t} {w} {r} i at low =
     elim (cases_lt i t.crtcs) [
       | inl within ↦ found_in (out_fence_label r.assigns) (ids_of t Crtc) (object_id Crtc i) (ids-has t Crtc i within)
-      | inr above ↦ (let none = no_label t w r i at low above
+      | inr above ↦ (let none = no_label i at low above
           in none_in (out_fence_label r.assigns) (ids_of t Crtc) (object_id Crtc i) none ∙ sym none)
     ]

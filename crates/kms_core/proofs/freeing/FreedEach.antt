@@ -22,6 +22,7 @@ use Rattle.kms_model.specs.Machine.Framebuffers.{freed, freed_from, is_in_things
 use Rattle.kms_model.specs.Machine.Histories.{are_legal, at, is_history, legal, run_steps}
 use Rattle.kms_model.specs.Machine.State.{Machine, first_machine}
 use Rattle.kms_model.specs.Promises.{FreesEachOnce}
+use Rattle.kms_model.proofs.Guards.{legal_parts}
 use Rattle.kms_model.proofs.HeldValues.{filter-in}
 use Rattle.kms_model.proofs.Items.{IsIn}
 use Rattle.kms_model.proofs.ShownLemmas.{with-id}
@@ -198,7 +199,7 @@ module _ (s : Script) (h : List Step) (last : Step) (plain : IsPlainScript s) (i
             ∙ ap (λ o. not (is_needed s.topology (at s h) x) ||
             (is_needed s.topology (at s h) x && not (passes (is_needed s.topology (next s (at s h) last)) o))) now
             ∙ one_of (is_needed s.topology (at s h) x) (is_needed s.topology (next s (at s h) last) y)
-            (stays s h last plain is is_legal x y
+            (stays h last plain is is_legal x
             (find-in (λ (z : Thing). z.id == id) (at s h).device.world.things x was) x_framebuffer now)
 
     unmade_now : (id : ℕ) → thing_with_id (next s (at s h) last).device.world.things id ≡ None
@@ -226,16 +227,17 @@ module _ (s : Script) (h : List Step) (last : Step) (plain : IsPlainScript s) (i
 
 -- along the rest of a history
 
-frees_along : (s : Script) → IsPlainScript s → (front rest : List Step) → is_history s front ≡ true → are_legal s (at s front) rest ≡ true
+frees_along : {s : Script} → IsPlainScript s → {front : List Step} (rest : List Step) → is_history s front ≡ true → are_legal s (at s front)
+    rest ≡ true
     → Frees s front → Frees s (front ++ rest)
 unfolding are_legal
-frees_along s plain front [] is legal_rest F = subst (Frees s) (sym (append-nil front)) F
-frees_along s plain front (step ∷ rest) is legal_rest F =
-    let both = and_parts (legal s (at s front) step) _ legal_rest in
+frees_along {s} plain {front} [] is legal_rest F = subst (Frees s) (sym (append-nil front)) F
+frees_along {s} plain {front} (step ∷ rest) is legal_rest F =
+    let all = legal_parts s (at s front) step rest legal_rest in
     subst (Frees s) (append_assoc front (step ∷ []) rest)
-    (frees_along s plain (front ++ step ∷ []) rest (legal-more s (first_machine s.topology) front step is both.0)
-    (subst (λ (v : Machine). are_legal s v rest ≡ true) (sym (run-more s (first_machine s.topology) front step)) both.1)
-    (frees_further s front step plain is both.0 F))
+    (frees_along plain rest (legal-more s (first_machine s.topology) front step is all.first)
+    (subst (λ (v : Machine). are_legal s v rest ≡ true) (sym (run-more s (first_machine s.topology) front step)) all.rest)
+    (frees_further s front step plain is all.first F))
 
 frees_first : (s : Script) → Frees s []
 unfolding run_steps freed_from IsDistinct
@@ -243,7 +245,7 @@ frees_first s = record { once = tt; unneeded = λ id y found. absurd cc; unmade 
 
 frees_all : (s : Script) (h : List Step) → IsPlainScript s → is_history s h ≡ true → Frees s h
 unfolding run_steps are_legal
-frees_all s h plain is = frees_along s plain [] h refl is (frees_first s)
+frees_all s h plain is = frees_along plain h refl is (frees_first s)
 
 abbrev IsFreed : Script → List Step → Thing → Type 0
 IsFreed s h thing = is_framebuffer thing.content ≡ true → is_in_things (freed s h) thing ≡ not (is_needed s.topology (at s h) thing)

@@ -178,7 +178,7 @@ module _ (s : Script) (h : List Step) (last : Step) (plain : IsPlainScript s) (i
   back_same : (t_n : (next s (at s h) last).device.world ≡ (at s h).device.world) (x : Thing) → IsIn x (at s h).device.world.things
       → is_needed s.topology (next s (at s h) last) x ≡ true → is_needed s.topology (at s h) x ≡ true
   back_same same_world x x_in needed =
-      stays s h last plain is is_legal x x x_in (needs_of s.topology (next s (at s h) last) x needed).framebuffer
+      stays h last plain is is_legal x x_in (needs_of s.topology (next s (at s h) last) x needed).framebuffer
       (ap (λ w. thing_with_id w.things x.id) same_world ∙ with-id 1000 (at s h).device.world.things x H.present.lawful.numbered.things x_in)
       needed
 
@@ -196,10 +196,10 @@ module _ (s : Script) (h : List Step) (last : Step) (plain : IsPlainScript s) (i
         live = C.live;
         unclean = unclean;
       })
-      (λ u v u_in framebuffer found needed. stays s h last plain is is_legal u v u_in framebuffer found needed)
+      (λ u v u_in framebuffer found needed. stays h last plain is is_legal u u_in framebuffer found needed)
 
   pub quiet_needs : SameNeeds (at s h) (next s (at s h) last) → IsQuiet s.topology (at s h) (next s (at s h) last)
-  quiet_needs S = quiet_same s.topology (at s h) (next s (at s h) last) H.present.lawful.numbered.things S
+  quiet_needs S = quiet_same s.topology H.present.lawful.numbered.things S
 
   -- a latch
   others_same : (c : ℕ) → Latches s (at s h) (next s (at s h) last) c → (other : ℕ) → IsIn other (ids_of s.topology Crtc) → (c ≡ other → ⊥)
@@ -215,10 +215,10 @@ module _ (s : Script) (h : List Step) (last : Step) (plain : IsPlainScript s) (i
       L.latch.picture (last_latched (at s h).records.latches o.index) (ne_eqb L.latch.crtc o.index not_this) ∙ sym
       (W.steady o.index o.within))
 
-  pub latch_frees : (c : ℕ) (ids : List ℕ) → Latches s (at s h) (next s (at s h) last) c
+  pub latch_frees : {c : ℕ} {ids : List ℕ} → Latches s (at s h) (next s (at s h) last) c
       → AreAllOf ids (λ id. picture_names id (decoded_picture s.topology (at s h).device.live c))
       → IsTold s.topology (at s h) (next s (at s h) last) ids
-  latch_frees c ids L A =
+  latch_frees {c} {ids} L A =
       latch_told s.topology (at s h) (next s (at s h) last) c ids H.present.lawful.numbered.things
       (record { world = L.world; commits = L.commits; cleaned = L.cleaned; is_crtc = L.is_crtc; others = others_same c L })
       (back_same L.world) A
@@ -273,15 +273,17 @@ module _ (s : Script) (h : List Step) (last : Step) (plain : IsPlainScript s) (i
       → IsQuiet s.topology (at s h) (next s (at s h) last) → AreFreed s (h ++ last ∷ []) w
   quiet_freed v w F items places Q = none_freed v w 0 F items (omega (arith, places)) Q.none (let few = Q.fewer in omega (arith, few))
 
-  pub added_freed : (v w : Reserved (ℕ × ℕ)) (client label buffer id : ℕ) → AreFreed s h v → w.items ≡ v.items → v.places + 1 ≤ w.places
+  pub added_freed : {v : Reserved (ℕ × ℕ)} (w : Reserved (ℕ × ℕ)) {client label buffer id : ℕ} → AreFreed s h v → w.items ≡ v.items →
+      v.places + 1 ≤ w.places
       → IsAdded s.topology (at s h) (next s (at s h) last) client label buffer id
       → AreFreed s (h ++ last ∷ []) w
-  added_freed v w client label buffer id F items places Q = none_freed v w 1 F items places Q.none Q.one_more
+  added_freed {v} w F items places Q = none_freed v w 1 F items places Q.none Q.one_more
 
-  pub told_freed : (v w : Reserved (ℕ × ℕ)) (ids : List ℕ) → AreFreed s h v → IsTold s.topology (at s h) (next s (at s h) last) ids
+  pub told_freed : {v : Reserved (ℕ × ℕ)} (w : Reserved (ℕ × ℕ)) {ids : List ℕ} → AreFreed s h v → IsTold s.topology (at s h) (next s
+      (at s h) last) ids
       → w.items ≡ v.items ++ freed_among s.topology (next s (at s h) last) ids
       → v.places ≡ w.places + length (freed_among s.topology (next s (at s h) last) ids) → AreFreed s (h ++ last ∷ []) w
-  told_freed v w ids F T items places = record {
+  told_freed w {ids} F T items places = record {
     items = items ∙ ap (λ xs. xs ++ freed_among s.topology (next s (at s h) last) ids) F.items ∙ ap
         (λ xs. map label_and_id (freed_from s (first_machine s.topology) h) ++ xs) (sym T.told)
         ∙ sym (joined (freed_from s (first_machine s.topology) h) _) ∙ ap (map label_and_id) (sym goes_further);

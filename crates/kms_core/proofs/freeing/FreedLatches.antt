@@ -44,7 +44,7 @@ latch_told t m n c ids numbered S back A =
       framebuffer = framebuffer;
       why = inr (inr
           (inl (live_by t m.device x.id c S.is_crtc
-          (subst (λ z. picture_names z (decoded_picture t m.device.live c) ≡ true) (sym own) (each_of ids _ A id is)))));
+          (subst (λ z. picture_names z (decoded_picture t m.device.live c) ≡ true) (sym own) (each_of A id is)))));
     }))
     (λ x needed off.
     let needs = needs_of t m x needed in
@@ -60,7 +60,7 @@ latch_told t m n c ids numbered S back A =
           | inl live ↦
               (let found = live_some t m.device x.id live in
               elim (cases_eq c found.0) [
-                | inl this ↦ all_of ids _ A x.id (ap (λ z. picture_names x.id (decoded_picture t m.device.live z)) this ∙ found.1.1)
+                | inl this ↦ all_of A x.id (ap (λ z. picture_names x.id (decoded_picture t m.device.live z)) this ∙ found.1.1)
                 | inr other ↦ absurd (no (inr (inr (inl (live_by t n.device x.id found.0 found.1.0
                     (ap (picture_names x.id) (S.others found.0 found.1.0 other) ∙ found.1.1))))))
               ])

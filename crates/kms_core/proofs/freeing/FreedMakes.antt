@@ -45,19 +45,19 @@ pub record IsExecuted (t : Topology) (m n : Machine) (w : World) : Type 0 where
   pub cleaned : n.device.marks.cleaned ≡ m.device.marks.cleaned
   pub live : n.device.live ≡ m.device.live
 
-pub same_test : (t : Topology) (m n : Machine) (w : World) → IsExecuted t m n w → (x : Thing) → is_needed t n x ≡ is_needed t m x
-same_test t m n w X x =
+pub same_test : {t : Topology} {m n : Machine} {w : World} → IsExecuted t m n w → (x : Thing) → is_needed t n x ≡ is_needed t m x
+same_test {t} {m} {n} {w} X x =
     needed_same t m n x
     (values_same t m n x.id (λ p is. ap (λ (v : World). plane_at v.things v.values p) X.world ∙ plane_like t m.device.world w p X.like is))
     (live_same t m n x.id X.live) (kept_same t m n x.id X.commits X.cleaned)
 
 -- as it was
-left_quiet : (t : Topology) (m n : Machine) (w : World) → IsExecuted t m n w → w.things ≡ m.device.world.things → IsQuiet t m n
-left_quiet t m n w X same =
+left_quiet : {t : Topology} {m n : Machine} {w : World} → IsExecuted t m n w → w.things ≡ m.device.world.things → IsQuiet t m n
+left_quiet {t} {m} {n} {w} X same =
     quiet_longer t m n [] X.numbered (record {
       things = ap (λ (v : World). v.things) X.world ∙ same ∙ ends m.device.world.things;
       same =
-          λ x is. same_test t m n w X x;
+          λ x is. same_test X x;
     }) (λ x is. absurd is)
   where
     ends : (xs : List Thing) → xs ≡ xs ++ []
@@ -65,13 +65,13 @@ left_quiet t m n w X same =
     ends (x ∷ xs) = ap (λ rest. x ∷ rest) (ends xs)
 
 -- one thing more
-pushed : (t : Topology) (m n : Machine) (w : World) (u : Thing) → IsExecuted t m n w → w.things ≡ m.device.world.things ++ u ∷ []
+pushed : {t : Topology} {m n : Machine} {w : World} (u : Thing) → IsExecuted t m n w → w.things ≡ m.device.world.things ++ u ∷ []
     → IsLonger t m n (u ∷ [])
-pushed t m n w u X more = record { things = ap (λ (v : World). v.things) X.world ∙ more; same = λ x is. same_test t m n w X x }
+pushed {t} {m} {n} {w} u X more = record { things = ap (λ (v : World). v.things) X.world ∙ more; same = λ x is. same_test X x }
 
-pushed_quiet : (t : Topology) (m n : Machine) (w : World) (u : Thing) → IsExecuted t m n w → w.things ≡ m.device.world.things ++ u ∷ []
+pushed_quiet : {t : Topology} {m n : Machine} {w : World} (u : Thing) → IsExecuted t m n w → w.things ≡ m.device.world.things ++ u ∷ []
     → is_framebuffer u.content ≡ false → IsQuiet t m n
-pushed_quiet t m n w u X more none = quiet_longer t m n (u ∷ []) X.numbered (pushed t m n w u X more) is_none where
+pushed_quiet {t} {m} {n} {w} u X more none = quiet_longer t m n (u ∷ []) X.numbered (pushed u X more) is_none where
   is_none : (x : Thing) → IsIn x (u ∷ []) → is_framebuffer x.content ≡ false
   is_none x (inl same) = ap (λ (z : Thing). is_framebuffer z.content) (sym same) ∙ none
   is_none x (inr rest) = absurd rest
@@ -97,13 +97,13 @@ pub record IsAdded (t : Topology) (m n : Machine) (client label buffer id : ℕ)
   pub none : filter (lost (is_needed t m) (is_needed t n) n.device.world.things) m.device.world.things ≡ []
   pub one_more : length (filter (is_needed t n) n.device.world.things) ≤ length (filter (is_needed t m) m.device.world.things) + 1
 
-pushed_added : (t : Topology) (m n : Machine) (w : World) (client label buffer : ℕ) (b : BufferInfo) → IsExecuted t m n w
+pushed_added : {t : Topology} {m n : Machine} {w : World} (client label buffer : ℕ) {b : BufferInfo} → IsExecuted t m n w
     → w.things ≡ m.device.world.things ++ added_thing m.device.world.next_id client label b ∷ []
     → buffer_of m.device.world.things client buffer ≡ Some b → IsAdded t m n client label buffer m.device.world.next_id
-pushed_added t m n w client label buffer b X more found =
+pushed_added {t} {m} {n} {w} client label buffer {b} X more found =
     let u : Thing = added_thing m.device.world.next_id client label b in
-    let L = pushed t m n w u X more in
-    let count = longer_count t m n (u ∷ []) L in
+    let L = pushed u X more in
+    let count = longer_count L in
     let one = most u (is_needed t n u) in
     let needed = needed_by t n u (record { framebuffer = refl; why = inl refl }) in
     record {
@@ -113,7 +113,7 @@ pushed_added t m n w client label buffer b X more found =
       longer = L;
       needed = needed;
       grown = longer_grown t m n (u ∷ []) L (is_one u (sym needed));
-      none = longer_none t m n (u ∷ []) X.numbered L;
+      none = longer_none X.numbered L;
       one_more = omega (arith, count, one);
     }
   where
@@ -158,7 +158,7 @@ module _ (t : Topology) (m n : Machine) (w : World) (u : Thing) (X : IsExecuted 
   only_this x x_in needed off =
       elim (cases_eq x.id u.id) [
         | inl same ↦ same
-        | inr apart ↦ absurd (false≢true (sym off ∙ ap (passes (is_needed t n)) (other_same x x_in apart) ∙ same_test t m n w X x ∙ needed))
+        | inr apart ↦ absurd (false≢true (sym off ∙ ap (passes (is_needed t n)) (other_same x x_in apart) ∙ same_test X x ∙ needed))
       ]
 
   unclosed : (x : Thing) (b : Bool) → is_needed t m (if b then record x { is_open = false } else x) ≡ true → is_needed t m x ≡ true
@@ -181,7 +181,7 @@ module _ (t : Topology) (m n : Machine) (w : World) (u : Thing) (X : IsExecuted 
       at : (o : Option Thing) → option_map (closed_if u.id) o ≡ Some y → passes (is_needed t m) o ≡ true
       at None e = absurd cc
       at (Some x) e = (let same : closed_if u.id x ≡ y = cc
-          in unclosed x (x.id == u.id) (ap (is_needed t m) same ∙ sym (same_test t m n w X y) ∙ needed))
+          in unclosed x (x.id == u.id) (ap (is_needed t m) same ∙ sym (same_test X y) ∙ needed))
 
   fewer : length (filter (is_needed t n) n.device.world.things)
       + length (filter (lost (is_needed t m) (is_needed t n) n.device.world.things) m.device.world.things)
@@ -248,7 +248,7 @@ module _ (t : Topology) (m n : Machine) (w : World) (u : Thing) (X : IsExecuted 
             at (Some x) found = elim (cases_eq x.id u.id) [
               | inr apart ↦ ap (λ z. held_where (is_needed t n) (Some z))
                   (cond-false (x.id == u.id) (record x { is_open = false }) x (ne_eqb x.id u.id apart))
-                  ∙ ap (λ b. if b then held_as x x.content else None) (same_test t m n w X x)
+                  ∙ ap (λ b. if b then held_as x x.content else None) (same_test X x)
               | inl same ↦ (
                   let x_in = find-in (λ (z : Thing). z.id == id) m.device.world.things x found in
                   let one : Some x ≡ Some u = sym (with-id 1000 m.device.world.things x X.numbered x_in)
@@ -281,15 +281,15 @@ MadeFrees t m n client _ _ = IsQuiet t m n
 module _ (t : Topology) (m n : Machine) where
   unless : (owner label : ℕ) (c : Content) (o : Option ℕ) → is_framebuffer c ≡ false
       → IsExecuted t m n (make_unless m.device.world owner label c o).world → IsQuiet t m n
-  unless owner label c None none X = pushed_quiet t m n _
+  unless owner label c None none X = pushed_quiet
       (record { label = label; id = m.device.world.next_id; owner = owner; content = c; is_open = true }) X refl none
-  unless owner label c (Some k) none X = left_quiet t m n _ X refl
+  unless owner label c (Some k) none X = left_quiet X refl
 
   adds : (client label buffer : ℕ) (o : Option BufferInfo) → buffer_of m.device.world.things client buffer ≡ o
       → IsExecuted t m n (add_fb m.device.world client label o).world
       → MadeFrees t m n client (command.AddFb label buffer) (add_fb m.device.world client label o).reply
-  adds client label buffer None found X = left_quiet t m n _ X refl
-  adds client label buffer (Some b) found X = pushed_added t m n _ client label buffer b X refl found
+  adds client label buffer None found X = left_quiet X refl
+  adds client label buffer (Some b) found X = pushed_added client label buffer X refl found
 
   blob_only : (client : ℕ) (u : Thing) → destroy_refusal client (Some u) ≡ None → is_framebuffer u.content ≡ false
   blob_only client u e = by_content u.content e where
@@ -303,8 +303,8 @@ module _ (t : Topology) (m n : Machine) where
 
   destroys : (client label : ℕ) (o : Option Thing) → thing_labelled m.device.world.things label ≡ o → (r : Option ℕ)
       → destroy_refusal client o ≡ r → IsExecuted t m n (close_unless m.device.world o r).world → IsQuiet t m n
-  destroys client label o found (Some k) refusal X = left_quiet t m n _ X refl
-  destroys client label None found None refusal X = left_quiet t m n _ X refl
+  destroys client label o found (Some k) refusal X = left_quiet X refl
+  destroys client label None found None refusal X = left_quiet X refl
   destroys client label (Some u) found None refusal X =
       closed_quiet t m n _ u X refl (find-in (λ x. x.label == label) m.device.world.things u found) (blob_only client u refusal)
 
@@ -322,7 +322,7 @@ module _ (t : Topology) (m n : Machine) where
   closes : (client label : ℕ) (o : Option Thing) → thing_labelled m.device.world.things label ≡ o → (r : Option ℕ) → close_refusal client o
       ≡ r → IsExecuted t m n (close_unless m.device.world o r).world
       → MadeFrees t m n client (command.CloseFb label) (close_unless m.device.world o r).reply
-  closes client label o found (Some k) refusal X = left_quiet t m n _ X refl
+  closes client label o found (Some k) refusal X = left_quiet X refl
   closes client label None found None refusal X = absurd cc
   closes client label (Some u) found None refusal X =
       record {

@@ -93,13 +93,13 @@ pub record IsLonger (t : Topology) (m n : Machine) (more : List Thing) : Type 0 
   pub things : n.device.world.things ≡ m.device.world.things ++ more
   pub same : (x : Thing) → IsIn x m.device.world.things → is_needed t n x ≡ is_needed t m x
 
-with_id_longer : (xs more : List Thing) (id : ℕ) (x : Thing) → thing_with_id xs id ≡ Some x → thing_with_id (xs ++ more) id ≡ Some x
-with_id_longer [] more id x found = absurd cc
-with_id_longer (u ∷ us) more id x found =
+with_id_longer : (xs more : List Thing) (id : ℕ) {x : Thing} → thing_with_id xs id ≡ Some x → thing_with_id (xs ++ more) id ≡ Some x
+with_id_longer [] more id found = absurd cc
+with_id_longer (u ∷ us) more id {x} found =
     elim (cases_Bool (u.id == id)) [
       | inl here ↦ cond-true (u.id == id) (Some u) (thing_with_id (us ++ more) id) here ∙ sym
           (cond-true (u.id == id) (Some u) (thing_with_id us id) here) ∙ found
-      | inr away ↦ cond-false (u.id == id) (Some u) (thing_with_id (us ++ more) id) away ∙ with_id_longer us more id x
+      | inr away ↦ cond-false (u.id == id) (Some u) (thing_with_id (us ++ more) id) away ∙ with_id_longer us more id
           (sym (cond-false (u.id == id) (Some u) (thing_with_id us id) away) ∙ found)
     ]
 
@@ -122,11 +122,11 @@ filter-longer p (x ∷ xs) more =
           (filter-longer p xs more)
     ]
 
-pub longer_none : (t : Topology) (m n : Machine) (more : List Thing) → AreNumbered 1000 m.device.world.things → IsLonger t m n more
+pub longer_none : {t : Topology} {m n : Machine} {more : List Thing} → AreNumbered 1000 m.device.world.things → IsLonger t m n more
     → filter (lost (is_needed t m) (is_needed t n) n.device.world.things) m.device.world.things ≡ []
-longer_none t m n more numbered L =
+longer_none {t} {m} {more} numbered L =
     filter-none _ m.device.world.things (λ x is.
-    let found = ap (λ things. thing_with_id things x.id) L.things ∙ with_id_longer m.device.world.things more x.id x
+    let found = ap (λ things. thing_with_id things x.id) L.things ∙ with_id_longer m.device.world.things more x.id
     (with-id 1000 m.device.world.things x numbered is) in
     rw (found, L.same x is) (never (is_needed t m x)))
   where
@@ -134,10 +134,10 @@ longer_none t m n more numbered L =
     never true = refl
     never false = refl
 
-pub longer_count : (t : Topology) (m n : Machine) (more : List Thing) → IsLonger t m n more
+pub longer_count : {t : Topology} {m n : Machine} {more : List Thing} → IsLonger t m n more
     → length (filter (is_needed t n) n.device.world.things) ≤ length (filter (is_needed t m) m.device.world.things)
     + length (filter (is_needed t n) more)
-longer_count t m n more L =
+longer_count {t} {m} {n} {more} L =
     let parts = ap (λ things. length (filter (is_needed t n) things)) L.things ∙ filter-longer (is_needed t n) m.device.world.things more in
     let old = length-fewer (is_needed t m) (is_needed t n) m.device.world.things (λ x is e. sym (L.same x is) ∙ e) in
     omega (arith, parts, old)
@@ -145,8 +145,8 @@ longer_count t m n more L =
 -- what a look-up finds after further things were made
 module _ (t : Topology) (m n : Machine) (more : List Thing) (L : IsLonger t m n more) where
   -- a thing that was there
-  pub longer_old : (id : ℕ) (x : Thing) → thing_with_id m.device.world.things id ≡ Some x → thing_with_id n.device.world.things id ≡ Some x
-  longer_old id x found = ap (λ things. thing_with_id things id) L.things ∙ with_id_longer m.device.world.things more id x found
+  pub longer_old : (id : ℕ) {x : Thing} → thing_with_id m.device.world.things id ≡ Some x → thing_with_id n.device.world.things id ≡ Some x
+  longer_old id {x} found = ap (λ things. thing_with_id things id) L.things ∙ with_id_longer m.device.world.things more id found
 
   -- a further one
   pub longer_new : (id : ℕ) → thing_with_id m.device.world.things id ≡ None → thing_with_id n.device.world.things id ≡ thing_with_id more id
@@ -158,7 +158,7 @@ module _ (t : Topology) (m n : Machine) (more : List Thing) (L : IsLonger t m n 
         → thing_with_id n.device.world.things id ≡ p → IsGrownAt t n o p
     at id None none None now = tt
     at id None none (Some y) now = each y (find-in (λ (u : Thing). u.id == id) more y (sym (longer_new id none) ∙ now))
-    at id (Some x) found p now = record { thing = x; found = sym now ∙ longer_old id x found; label = refl; id = refl; content = refl }
+    at id (Some x) found p now = record { thing = x; found = sym now ∙ longer_old id found; label = refl; id = refl; content = refl }
 
   -- where no further one is a framebuffer, the same is stored
   pub longer_steady : ((y : Thing) → IsIn y more → is_framebuffer y.content ≡ false)
@@ -175,17 +175,17 @@ module _ (t : Topology) (m n : Machine) (more : List Thing) (L : IsLonger t m n 
         → held_where (is_needed t n) (thing_with_id n.device.world.things id) ≡ held_where (is_needed t m) o
     at id None found = ap (held_where (is_needed t n)) (longer_new id found) ∙ no_fb id (thing_with_id more id) refl
     at id (Some x) found =
-        ap (held_where (is_needed t n)) (longer_old id x found)
+        ap (held_where (is_needed t n)) (longer_old id found)
         ∙ ap (λ b. if b then held_as x x.content else None) (L.same x (find-in (λ (u : Thing). u.id == id) m.device.world.things x found))
 
 pub quiet_longer : (t : Topology) (m n : Machine) (more : List Thing) → AreNumbered 1000 m.device.world.things → IsLonger t m n more
     → ((x : Thing) → IsIn x more → is_framebuffer x.content ≡ false) → IsQuiet t m n
 unfolding is_needed
 quiet_longer t m n more numbered L none =
-    let count = longer_count t m n more L in
+    let count = longer_count L in
     let no_more = ap length (filter-none (is_needed t n) more (λ x is. rw (none x is) refl)) in
     record {
-      none = longer_none t m n more numbered L;
+      none = longer_none numbered L;
       fewer = omega (arith, count, no_more);
       grown = longer_grown t m n more L (λ y is. none y is ∙ sym (needed_framebuffer t n y (none y is)));
       steady = longer_steady t m n more L none;
@@ -198,8 +198,8 @@ pub record SameNeeds (m n : Machine) : Type 0 where
   pub cleaned : n.device.marks.cleaned ≡ m.device.marks.cleaned
   pub live : n.device.live ≡ m.device.live
 
-pub quiet_same : (t : Topology) (m n : Machine) → AreNumbered 1000 m.device.world.things → SameNeeds m n → IsQuiet t m n
-quiet_same t m n numbered S =
+pub quiet_same : (t : Topology) {m n : Machine} → AreNumbered 1000 m.device.world.things → SameNeeds m n → IsQuiet t m n
+quiet_same t {m} {n} numbered S =
     quiet_longer t m n [] numbered
     (record {
       things = ap (λ (w : World). w.things) S.world ∙ sym (no_more m.device.world.things);
@@ -217,11 +217,11 @@ StaysFree s m step thing = is_framebuffer thing.content ≡ true → is_needed s
     → (later : Thing) → thing_with_id (next s m step).device.world.things thing.id ≡ Some later → is_needed s.topology (next s m step) later
     ≡ false
 
-pub stays : (s : Script) (h : List Step) (step : Step) → IsPlainScript s → is_history s h ≡ true → legal s (at s h) step ≡ true
-    → (x y : Thing) → IsIn x (at s h).device.world.things → is_framebuffer x.content ≡ true
+pub stays : {s : Script} (h : List Step) (step : Step) → IsPlainScript s → is_history s h ≡ true → legal s (at s h) step ≡ true
+    → (x : Thing) {y : Thing} → IsIn x (at s h).device.world.things → is_framebuffer x.content ≡ true
     → thing_with_id (next s (at s h) step).device.world.things x.id ≡ Some y → is_needed s.topology (next s (at s h) step) y ≡ true
     → is_needed s.topology (at s h) x ≡ true
-stays s h step plain is legal_step x y x_in framebuffer found needed =
+stays {s} h step plain is legal_step x {y} x_in framebuffer found needed =
     elim (cases_Bool (is_needed s.topology (at s h) x)) [
       | inl was ↦ was
       | inr unneeded ↦ absurd (false≢true (sym (all_in (StaysFree s (at s h) step) (at s h).device.world.things x
@@ -230,11 +230,11 @@ stays s h step plain is legal_step x y x_in framebuffer found needed =
 
 -- A cleanup
 
-pub each_of : (ids : List ℕ) (test : ℕ → Bool) → AreAllOf ids test → (id : ℕ) → IsIn id ids → test id ≡ true
-each_of ids test A id is = sym (A.same id) ∙ list_any-has (λ other. other == id) ids id is (eq-eqb id id refl)
+pub each_of : {ids : List ℕ} {test : ℕ → Bool} → AreAllOf ids test → (id : ℕ) → IsIn id ids → test id ≡ true
+each_of {ids} A id is = sym (A.same id) ∙ list_any-has (λ other. other == id) ids id is (eq-eqb id id refl)
 
-pub all_of : (ids : List ℕ) (test : ℕ → Bool) → AreAllOf ids test → (id : ℕ) → test id ≡ true → IsIn id ids
-all_of ids test A id holds =
+pub all_of : {ids : List ℕ} {test : ℕ → Bool} → AreAllOf ids test → (id : ℕ) → test id ≡ true → IsIn id ids
+all_of {ids} A id holds =
     let found = list_any-some (λ other. other == id) ids (A.same id ∙ holds) in
     subst (λ z. IsIn z ids) (eqb-true found.item id found.holds) found.is_in
 
@@ -354,7 +354,7 @@ cleanup_told t m k ids numbered within unclean A =
       framebuffer = framebuffer;
       why = inr (inr
           (inr (keeps_by t m x.id k (range-in 0 (length m.device.commits) k (omega arith) (omega (arith, within))) unclean
-          (subst (λ z. commit_keeps t m.device z k ≡ true) (sym own) (each_of ids _ A id is)))));
+          (subst (λ z. commit_keeps t m.device z k ≡ true) (sym own) (each_of A id is)))));
     }))
     (λ x needed off.
     let needs = needs_of t m x needed in
@@ -370,7 +370,7 @@ cleanup_told t m k ids numbered within unclean A =
           | inr kept ↦
               (let found = keeps_some t m x.id kept in
               elim (cases_eq k found.0) [
-                | inl this ↦ all_of ids _ A x.id (ap (commit_keeps t m.device x.id) this ∙ found.1.1.1)
+                | inl this ↦ all_of A x.id (ap (commit_keeps t m.device x.id) this ∙ found.1.1.1)
                 | inr other ↦ absurd (no (inr (inr (inr (keeps_by t (cleaned_as m k) x.id found.0 found.1.0
                     (or_from (k == found.0) _ (ne_eqb k found.0 other) found.1.1.0) (cleaned_keeps t m k x.id found.0 ∙ found.1.1.1))))))
               ])
@@ -442,14 +442,14 @@ named_word : (id : ℕ) (o : Option FbInfo) → is_fb id o ≡ true → fb_numbe
 named_word id None names = absurd (false≢true names)
 named_word id (Some f) names = eqb-true f.id id names
 
-word_named : (id : ℕ) (o : Option FbInfo) → 1 ≤ id → fb_number (λ f. f.id) o ≡ id → is_fb id o ≡ true
-word_named id None some word = absurd (omega (arith, some, word))
-word_named id (Some f) some word = eq-eqb f.id id word
+word_named : {id : ℕ} (o : Option FbInfo) → 1 ≤ id → fb_number (λ f. f.id) o ≡ id → is_fb id o ≡ true
+word_named None some word = absurd (omega (arith, some, word))
+word_named {id} (Some f) some word = eq-eqb f.id id word
 
 -- a plane with these words names what another with the same words names
 pub names_alike : (id : ℕ) (p q : PlaneState) → 1 ≤ id → plane_words p ≡ plane_words q → is_fb id p.fb ≡ true → is_fb id q.fb ≡ true
 names_alike id p q some same names =
-    word_named id q.fb some (sym (word_fb q) ∙ ap (λ (w : PlaneWords). w.fb) (sym same) ∙ word_fb p ∙ named_word id p.fb names)
+    word_named q.fb some (sym (word_fb q) ∙ ap (λ (w : PlaneWords). w.fb) (sym same) ∙ word_fb p ∙ named_word id p.fb names)
 
 pub values_some : (t : Topology) (d : DeviceState) (id : ℕ) → values_name t d id ≡ true → (p : ℕ)
     × (IsIn p (ids_of t Plane) × (is_fb id (plane_at d.world.things d.world.values p).fb ≡ true))
@@ -521,7 +521,7 @@ swap_quiet s m n client x C back =
     things = ap (λ (w : World). w.things) C.world ∙ E.same
 
     found_now : (u : Thing) → IsIn u m.device.world.things → thing_with_id n.device.world.things u.id ≡ Some u
-    found_now u is = ap (λ all. thing_with_id all u.id) things ∙ with_id_longer m.device.world.things E.more u.id u
+    found_now u is = ap (λ all. thing_with_id all u.id) things ∙ with_id_longer m.device.world.things E.more u.id
         (with-id 1000 m.device.world.things u numbered is)
 
     size : length n.device.commits ≡ suc (length m.device.commits)

@@ -57,13 +57,13 @@ without_other (s ∷ fbs) id at apart = elim (cases_eq s.id id) [
   | inr away ↦ rw (ne_eqb s.id id away) (ap (λ o. if s.id == at then Some s.value else o) (without_other fbs id at apart))
 ]
 
-pub with_this : (fbs : Fbs) (id : ℕ) (old new : Framebuffer) → value_with_id fbs id ≡ Some old
+pub with_this : (fbs : Fbs) (id : ℕ) {old : Framebuffer} (new : Framebuffer) → value_with_id fbs id ≡ Some old
     → value_with_id (with_value fbs id new) id ≡ Some new
-with_this [] id old new found = absurd cc
-with_this (s ∷ fbs) id old new found = elim (cases_eq s.id id) [
+with_this [] id new found = absurd cc
+with_this (s ∷ fbs) id {old} new found = elim (cases_eq s.id id) [
   | inl here ↦ (let on = eq-eqb s.id id here in rw on (cond-true (id == id) (Some new) _ (eq-eqb id id refl)))
   | inr away ↦ (let off = ne_eqb s.id id away in rw (off, off)
-      (with_this fbs id old new (sym (cond-false (s.id == id) (Some s.value) (value_with_id fbs id) off) ∙ found)))
+      (with_this fbs id new (sym (cond-false (s.id == id) (Some s.value) (value_with_id fbs id) off) ∙ found)))
 ]
 
 pub with_other : (fbs : Fbs) (id at : ℕ) (new : Framebuffer) → (id ≡ at → ⊥)
@@ -146,9 +146,9 @@ abbrev lost_by : Topology → Machine → Machine → Thing → Bool
 lost_by t m n = lost (is_needed t m) (is_needed t n) n.device.world.things
 
 -- a step that frees some candidates
-pub told_stored : (t : Topology) (m n : Machine) (ids : List ℕ) (fbs : Fbs) → AreNumbered 1000 m.device.world.things → IsTold t m n ids
+pub told_stored : {t : Topology} {m n : Machine} {ids : List ℕ} (fbs : Fbs) → AreNumbered 1000 m.device.world.things → IsTold t m n ids
     → WereStored t m n fbs → AreStored t n (without_freed (freed_among t n ids) fbs)
-told_stored t m n ids fbs numbered T W = λ id.
+told_stored {t} {m} {n} {ids} fbs numbered T W = λ id.
     value_without (freed_among t n ids) fbs id
     ∙ (λ i. if has_entry (sym T.told i) id then None else W id i)
     ∙ ap (λ b. if b then None else held_where (was_needed t m) (thing_with_id n.device.world.things id))
@@ -228,7 +228,7 @@ module _ (t : Topology) (m n : Machine) (client label buffer next : ℕ) (A : Is
         (longer_new t m n (made ∷ []) A.longer id found
         ∙ cond-false (m.device.world.next_id == id) (Some made) None (ne_eqb m.device.world.next_id id away)))
     at id away (Some x) found =
-        sym (ap (held_where (is_needed t n)) (longer_old t m n (made ∷ []) A.longer id x found)
+        sym (ap (held_where (is_needed t n)) (longer_old t m n (made ∷ []) A.longer id found)
         ∙ ap (λ b. if b then held_as x x.content else None)
         (A.longer.same x (find-in (λ (u : Thing). u.id == id) m.device.world.things x found)))
 
@@ -304,7 +304,7 @@ module _ (t : Topology) (m n : Machine) (client label : ℕ) (C : IsClosed t m n
       ∙ ap Some (cond-true (C.thing.id == C.thing.id) thing_now C.thing (eq-eqb C.thing.id C.thing.id refl))
 
   shut_value : value_with_id (fbs_closed fbs client C.thing.id) C.thing.id ≡ held_as thing_now C.thing.content
-  shut_value = ap (λ xs. value_with_id xs C.thing.id) D.closes ∙ with_this fbs C.thing.id D.old D.new D.was ∙ sym D.held
+  shut_value = ap (λ xs. value_with_id xs C.thing.id) D.closes ∙ with_this fbs C.thing.id D.new D.was ∙ sym D.held
 
   other_value : (id : ℕ) → (C.thing.id ≡ id → ⊥) → value_with_id (fbs_closed fbs client C.thing.id) id ≡ value_with_id fbs id
   other_value id apart = ap (λ xs. value_with_id xs id) D.closes ∙ with_other fbs C.thing.id id D.new apart
@@ -330,9 +330,9 @@ module _ (t : Topology) (m n : Machine) (client label : ℕ) (C : IsClosed t m n
         (sym (cond-false (x.id == C.thing.id) (record x { is_open = false }) x (ne_eqb x.id C.thing.id (λ e. away (sym e ∙ own)))))
 
   -- and so is the one that was closed
-  pub closed_held : (things : List Thing) → n.device.world.things ≡ things → (u : Thing) → thing_labelled things label ≡ Some u
+  pub closed_held : {things : List Thing} → n.device.world.things ≡ things → {u : Thing} → thing_labelled things label ≡ Some u
       → AreHeld things (fbs_closed fbs client C.thing.id) (u.id ∷ [])
-  closed_held things same u found =
+  closed_held {things} same {u} found =
       let one : Some C.now ≡ Some u = sym C.found ∙ ap (λ all. thing_labelled all label) same ∙ found in
       let is_u : C.now ≡ u = cc in
       let own : C.thing.id ≡ u.id = sym C.same_id ∙ ap (λ (x : Thing). x.id) is_u in (

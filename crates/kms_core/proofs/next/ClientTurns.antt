@@ -1,8 +1,8 @@
 -- The next step of a client in the order of one thread.
 use Rattle.std.proofs.Common.{◌≡◌, ℕ, ◌≤◌, Bool, true, false, List, length, cond, Option, Some, None, refl, sym, ap, ◌∙◌, arith, ⊎_elim}
-use Rattle.std.specs.Prelude.{◌&&◌, find, is_none, not}
+use Rattle.std.specs.Prelude.{◌&&◌, find, not}
 use Rattle.std.specs.Option.{option_and_then, option_map}
-use Rattle.std.proofs.lemmas.Bool.{and_left, and_parts, cases_Bool, false≢true}
+use Rattle.std.proofs.lemmas.Bool.{and_left, cases_Bool, false≢true}
 use Rattle.kms_model.specs.declared.replies.Step.{Step}
 use Rattle.kms_model.specs.declared.replies.Step.TheVariants as step
 use Rattle.kms_model.specs.declared.runs.Doing.{Doing}
@@ -12,11 +12,12 @@ use Rattle.kms_model.specs.declared.scripts.Request.{Request}
 use Rattle.kms_model.specs.declared.scripts.Script.{Script}
 use Rattle.kms_model.specs.Firsts.{or_else}
 use Rattle.kms_model.specs.Machine.Histories.{is_at_end, legal}
-use Rattle.kms_model.specs.Machine.State.{Machine, command_at, doing_at, request_at, request_in}
+use Rattle.kms_model.specs.Machine.State.{Machine, doing_at, request_at, request_in}
 use Rattle.kms_model.specs.Machine.Steps.{contended, idle_at, is_atomic, is_free_for, is_idle, is_making, is_signal, is_taking, is_wait}
 use Rattle.kms_model.specs.Machine.Steps.{may, may_lock, must_back_off, taking_at}
 use Rattle.kms_model.specs.Order.Turns.{client_step, first_missing, lock_step, next_lock}
 use Rattle.kms_model.specs.Request.Reach.{reaches}
+use Rattle.kms_model.proofs.Guards.{end_guards}
 use Rattle.kms_model.proofs.Items.{or_else-nones}
 use Rattle.kms_laws.proofs.Headlines.{range-in}
 use Rattle.kms_laws.proofs.Quiet.{find-none, unable-quiet}
@@ -90,22 +91,22 @@ module _ (v : Run) (client : ℕ) where
   end_told ended is = ap by_end is
 
   module _ (going : (machine v).stalled ≡ false) where
-    steps_told : (refuse test swap begin make signal read back relock : Bool) → refuse ≡ able v (step.Refuse client) → test
+    steps_told : {refuse test swap begin make signal read back relock : Bool} → refuse ≡ able v (step.Refuse client) → test
         ≡ able v (step.Test client) → swap ≡ able v (step.Swap client)
         → begin ≡ able v (step.Begin client) → make ≡ able v (step.Make client) → signal ≡ able v (step.Signal client) → read
         ≡ able v (step.Read client) → back ≡ able v (step.BackOff client) → relock ≡ able v (step.Relock client)
         → or_else (tried_by client refuse test swap begin make signal read back relock) lock ≡ client_step v.script (machine v) client
-    steps_told refuse test swap begin make signal read back relock a b c d e f g h k =
+    steps_told a b c d e f g h k =
         (λ i. or_else (tried_by client (a i) (b i) (c i) (d i) (e i) (f i) (g i) (h i) (k i)) lock) ∙ sym (end_told false going)
 
     -- A client that takes locks for no request
 
-    pub other_told : None ≡ request_taken v.script (machine v) client → (begin make signal read back relock : Bool)
+    pub other_told : None ≡ request_taken v.script (machine v) client → {begin : Bool} (make signal read back relock : Bool)
         → begin ≡ able v (step.Begin client) → make ≡ able v (step.Make client) → signal ≡ able v (step.Signal client) → read
         ≡ able v (step.Read client) → back ≡ able v (step.BackOff client) → relock ≡ able v (step.Relock client)
         → or_else (tried_by client false false false begin make signal read back relock) lock ≡ client_step v.script (machine v) client
-    other_told none begin make signal read back relock =
-        steps_told false false false begin make signal read back relock (no_refuse v.script (machine v) client none)
+    other_told none {begin} make signal read back relock =
+        steps_told (no_refuse v.script (machine v) client none)
         (no_test v.script (machine v) client none) (no_swap v.script (machine v) client none)
 
     -- A client that takes locks for one
@@ -113,14 +114,15 @@ module _ (v : Run) (client : ℕ) where
     idle_off : (test : Command → Bool) → is_idle (doing_at (machine v) client) ≡ false → idle_at v.script (machine v) client test ≡ false
     idle_off test off = rw off refl
 
-    pub taking_told : (request : Request) → Some request ≡ request_taken v.script (machine v) client → (refuse test swap : Bool) → refuse
+    pub taking_told : {request : Request} → Some request ≡ request_taken v.script (machine v) client → {refuse : Bool} (test swap : Bool) →
+        refuse
         ≡ able v (step.Refuse client) → test ≡ able v (step.Test client) → swap ≡ able v (step.Swap client)
         → or_else (tried_by client refuse test swap false false false false false false) lock ≡ client_step v.script (machine v) client
     unfolding may
-    taking_told request taken refuse test swap a b c =
-        let others = taking_others (doing_at (machine v) client) (taken_parts v.script (machine v) client request taken).taking in
+    taking_told taken {refuse} test swap a b c =
+        let others = taking_others (doing_at (machine v) client) (taken_parts v.script (machine v) client taken).taking in
         let idle = others.0.0 in
-        steps_told refuse test swap false false false false false false a b c (sym (idle_off is_atomic idle))
+        steps_told a b c (sym (idle_off is_atomic idle))
         (sym (idle_off is_making idle)) (sym (idle_off is_signal idle))
         (sym (and_left (idle_at v.script (machine v) client is_wait) _ (idle_off is_wait idle))) (sym others.0.1)
         (sym (ap (is_free_for (machine v)) others.1))
@@ -133,30 +135,25 @@ module _ (v : Run) (client : ℕ) where
         (option_and_then (next_lock v.script (machine v) client) o)) is
     by false off is = no_lock off
 
-  pub lock_some : (request : Request) → Some request ≡ request_taken v.script (machine v) client
+  pub lock_some : {request : Request} → Some request ≡ request_taken v.script (machine v) client
       → option_map (lock_step client) (next_lock v.script (machine v) client request) ≡ lock
-  lock_some request is =
+  lock_some is =
       ap (λ (o : Option Request). option_map (lock_step client) (option_and_then (next_lock v.script (machine v) client) o))
-      (sym (taken_parts v.script (machine v) client request is).at)
+      (sym (taken_parts v.script (machine v) client is).at)
 
 -- Where the history was ended
 
 no_request : (s : Script) (m : Machine) (client : ℕ) → is_at_end s m client ≡ true → request_at s m client ≡ None
-no_request s m client ends = by_command (command_at s m client) refl (and_parts (is_idle (doing_at m client)) _ ends).1 where
-  by_command : (o : Option Command) → command_at s m client ≡ o → is_none o ≡ true → request_at s m client ≡ None
-  by_command None is none = ap request_in is
-  by_command (Some c) is none = absurd (false≢true none)
+no_request s m client ends = ap request_in (end_guards s m client ends).ended
 
-pub client_ended : (r v : Run) (st : Stores) (client : ℕ) → Stands r st → r ≡ v → st.stalled ≡ true → 1 ≤ client → client
-    ≤ length v.script.clients → None ≡ client_step v.script (machine v) client
-client_ended r v st client stands same is low high =
+pub client_ended : {r : Run} {st : Stores} (client : ℕ) → Stands r st → st.stalled ≡ true → 1 ≤ client → client
+    ≤ length r.script.clients → None ≡ client_step r.script (machine r) client
+client_ended {r} {st} client stands is low high =
     let ended : (machine r).stalled ≡ true = stands.stores.ended ∙ is in
-    let size = ap (λ (w : Run). length w.script.clients) same in
     sym
     (⊎_elim
     (λ ends. end_told r client true ended ∙ ap (λ (o : Option Request). option_map (lock_step client)
     (option_and_then (next_lock r.script (machine r) client) o)) (no_request r.script (machine r) client ends))
-    (λ running. (unable-quiet r.script (machine r) (ended_unable r st stands ended)).clients client
-    (range-in 1 (length r.script.clients) client low (omega (arith, high, size))) running)
+    (λ running. (unable-quiet r.script (machine r) (ended_unable stands ended)).clients client
+    (range-in 1 (length r.script.clients) client low (omega (arith, high))) running)
     (cases_Bool (is_at_end r.script (machine r) client)))
-    ∙ ap (λ (w : Run). client_step w.script (machine w) client) same

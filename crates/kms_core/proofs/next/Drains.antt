@@ -24,18 +24,17 @@ cleaned_from r (Some k) first =
     let within = first.1 in
     sym (one_fails (is_cleaned (machine r).device) 0 (length (machine r).device.commits) k (omega arith) (omega (arith, within)) first.2)
 
-pub cleaned_told : (r v : Run) (st : Stores) (o : Option ℕ) (b : Bool) → Stands r st → r ≡ v → FindsFirst st.tracker 0 o → is_some o ≡ not b
-    → b ≡ list_all (is_cleaned (machine v).device) (commit_numbers (machine v))
-cleaned_told r v st o b stands same first none =
+pub cleaned_told : {r : Run} {st : Stores} (o : Option ℕ) (b : Bool) → Stands r st → FindsFirst st.tracker 0 o → is_some o ≡ not b
+    → b ≡ list_all (is_cleaned (machine r).device) (commit_numbers (machine r))
+cleaned_told {r} o b stands first none =
     none_is o b none ∙ cleaned_from r o
     (first r.script.topology (machine r).device.commits (machine r).device.marks (machine r).records.latches stands.stores.tracker)
-    ∙ ap (λ (w : Run). list_all (is_cleaned (machine w).device) (commit_numbers (machine w))) same
 
 module _ (v : Run) where
-  pub drained_both : (b : Bool) → list_all (is_at_end v.script (machine v)) (client_numbers v.script) ≡ true → b
+  pub drained_both : {b : Bool} → list_all (is_at_end v.script (machine v)) (client_numbers v.script) ≡ true → b
       ≡ list_all (is_cleaned (machine v).device) (commit_numbers (machine v)) → b ≡ is_drained v.script (machine v)
   unfolding is_drained
-  drained_both b ended is = is ∙ ap (λ x. x && list_all (is_cleaned (machine v).device) (commit_numbers (machine v))) (sym ended)
+  drained_both ended is = is ∙ ap (λ x. x && list_all (is_cleaned (machine v).device) (commit_numbers (machine v))) (sym ended)
 
   pub drained_not : list_all (is_at_end v.script (machine v)) (client_numbers v.script) ≡ false → false ≡ is_drained v.script (machine v)
   unfolding is_drained

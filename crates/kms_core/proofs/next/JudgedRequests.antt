@@ -53,15 +53,15 @@ pub one_more : (f : ℕ → Bool) (p : ℕ) (before after : Bool) → before ≡
     ≡ all_below f (p + 1)
 one_more f p before after is all now = now ∙ ap (λ b. b && f p) (sym all ∙ is) ∙ sym (all_more f p)
 
-pub no_more : (f : ℕ → Bool) (p : ℕ) (before after : Bool) → before ≡ all_below f p → before ≡ false → after ≡ before → after
+pub no_more : (f : ℕ → Bool) (p : ℕ) {before after : Bool} → before ≡ all_below f p → before ≡ false → after ≡ before → after
     ≡ all_below f (p + 1)
-no_more f p before after is out same = same ∙ out ∙ ap (λ b. b && f p) (sym out ∙ is) ∙ sym (all_more f p)
+no_more f p is out same = same ∙ out ∙ ap (λ b. b && f p) (sym out ∙ is) ∙ sym (all_more f p)
 
 -- The request, as the call finds it
 
-pub takes_at : (r v : Run) (client : ℕ) (request : Request) → r ≡ v → Some request ≡ request_taken v.script (machine v) client
+pub takes_at : {r v : Run} (client : ℕ) {request : Request} → r ≡ v → Some request ≡ request_taken v.script (machine v) client
     → Takes r.script (machine r) client request
-takes_at r v client request same is = taken_parts r.script (machine r) client request
+takes_at {r} client {request} same is = taken_parts r.script (machine r) client
     (is ∙ ap (λ (w : Run). request_taken w.script (machine w) client) (sym same))
 
 -- The early refusals
@@ -70,32 +70,26 @@ some_number : (o : Option Refusal) → is_some (refusal_number o) ≡ is_some o
 some_number None = refl
 some_number (Some refusal) = refl
 
-pub none_told : {A : Type 0} (b : Bool) (o p : Option A) → not b ≡ is_some o → o ≡ p → b ≡ is_none p
-none_told true None p told is = ap (λ x. is_none x) is
-none_told false None p told is = absurd cc
-none_told true (Some x) p told is = absurd cc
-none_told false (Some x) p told is = ap (λ x. is_none x) is
+pub none_told : {A : Type 0} (b : Bool) (o : Option A) {p : Option A} → not b ≡ is_some o → o ≡ p → b ≡ is_none p
+none_told true None told is = ap (λ x. is_none x) is
+none_told false None told is = absurd cc
+none_told true (Some x) told is = absurd cc
+none_told false (Some x) told is = ap (λ x. is_none x) is
 
-pub early_told : (r : Run) (st : Stores) (request : Request) (o : Option Refusal) (told : Bool) → Stands r st
+pub early_told : {r : Run} {st : Stores} (request : Request) (o : Option Refusal) {told : Bool} → Stands r st
     → refusal_number o ≡ early_refusal r.script.topology (λ label. look_of (thing_labelled st.made.things label)) request → is_some o ≡ told
     → is_some (early_in r.script.topology (world r) request) ≡ told
-early_told r st request o told stands first is =
-    let looks : (λ label. look_of (thing_labelled st.made.things label)) ≡ look_up (world r) = λ i label. tells_now r st stands label i in
+early_told {r} {st} request o stands first is =
+    let looks : (λ label. look_of (thing_labelled st.made.things label)) ≡ look_up (world r) = λ i label. tells_now stands label i in
     ap (λ g. is_some (early_refusal r.script.topology g request)) (sym looks) ∙ ap (λ (n : Option ℕ). is_some n) (sym first) ∙ some_number o
     ∙ is
 
-pub early_none : (r : Run) (st : Stores) (request : Request) (o : Option Refusal) → Stands r st
+pub early_none : {r : Run} {st : Stores} (request : Request) (o : Option Refusal) → Stands r st
     → refusal_number o ≡ early_refusal r.script.topology (λ label. look_of (thing_labelled st.made.things label)) request → is_some o
     ≡ false
     → early_in r.script.topology (world r) request ≡ None
-early_none r st request o stands first is = not-none (early_in r.script.topology (world r) request)
-    (early_told r st request o false stands first is)
-
-pub judged_early : (r v : Run) (st : Stores) (client : ℕ) (request : Request) (o : Option Refusal) → Stands r st → r ≡ v
-    → refusal_number o ≡ early_refusal r.script.topology (λ label. look_of (thing_labelled st.made.things label)) request → is_some o ≡ true
-    → IsJudged v.script.topology (machine v) client request None
-judged_early r v st client request o stands same first is =
-    subst (λ (w : Run). IsJudged w.script.topology (machine w) client request None) same (early_told r st request o true stands first is)
+early_none {r} {st} request o stands first is = not-none (early_in r.script.topology (world r) request)
+    (early_told request o stands first is)
 
 -- All else
 
@@ -121,21 +115,21 @@ pub record AreTold (r : Run) (st : Stores) (client : ℕ) (request : Request) (j
   pub hindered : j.hindered ≡ late_told queue st.tracker named touched request.flags
   pub ready : j.ready ≡ is_none (not_yet_of st.tracker named)
 
-pub judged_late : (r v : Run) (st : Stores) (client : ℕ) (request : Request) (j : Judged) → Stands r st → r ≡ v
+pub judged_late : {r v : Run} {st : Stores} {client : ℕ} {request : Request} (j : Judged) → Stands r st → r ≡ v
     → Takes r.script (machine r) client request → AreTold r st client request j
     → IsJudged v.script.topology (machine v) client request (Some j)
-judged_late r v st client request j stands same takes told =
+judged_late {r} {st} {client} {request} j stands same takes told =
     let t = r.script.topology in
     let m = machine r in
-    let queue = queue_there r st client request takes.at stands in
+    let queue = queue_there client takes.at stands in
     let limits = device_within t stands.formed.device in
     let late_is : late_told told.queue st.tracker told.named told.touched request.flags ≡ late_reply t m client request =
     ap (λ (q : Queue). late_told q st.tracker told.named told.touched request.flags) told.queue_is
-    ∙ late_same r st client request told.named told.touched request.flags stands queue.is refl told.named_is told.touched_is in
+    ∙ late_same request request.flags stands queue.is refl told.named_is told.touched_is in
     let here : IsJudgedLate t m client request j =
     record {
       none = told.none;
-      holds = told.holds ∙ mask_holds t m client request told.touched stands.formed.device told.touched_is;
+      holds = told.holds ∙ mask_holds m client request stands.formed.device told.touched_is;
       late = ap refusal_number told.late ∙ told.refusal_is;
       hindered = told.hindered ∙ late_is;
       ready = told.ready ∙ ap (λ n. is_none (not_yet_of st.tracker n)) told.named_is ∙ not_yet_machine t m st.tracker request
@@ -174,20 +168,20 @@ accepted_late s m request none = rw none (none-some (late_in s.topology m.device
 
 module _ (s : Script) (m : Machine) (client : ℕ) (request : Request) (is : Some request ≡ request_taken s m client) where
   takes : Takes s m client request
-  takes = taken_parts s m client request is
+  takes = taken_parts s m client is
 
   pub refuse_early : IsJudged s.topology m client request None → true ≡ may s m (step.Refuse client)
   unfolding may may_refuse
-  refuse_early early = sym (taking-is s m client (may_refuse s.topology m client) request takes ∙ rw early refl)
+  refuse_early early = sym (taking-is (may_refuse s.topology m client) takes ∙ rw early refl)
 
   pub test_early : IsJudged s.topology m client request None → false ≡ may s m (step.Test client)
   unfolding may may_test
-  test_early early = sym (taking-is s m client (may_test s.topology m client) request takes ∙ rw (not_accepted s m request early)
+  test_early early = sym (taking-is (may_test s.topology m client) takes ∙ rw (not_accepted s m request early)
       (both_off (is_test request.flags) _))
 
   pub swap_early : IsJudged s.topology m client request None → false ≡ may s m (step.Swap client)
   unfolding may may_swap
-  swap_early early = sym (taking-is s m client (may_swap s.topology m client) request takes ∙ rw (not_accepted s m request early)
+  swap_early early = sym (taking-is (may_swap s.topology m client) takes ∙ rw (not_accepted s m request early)
       (both_off (not (is_test request.flags)) _))
 
   module _ (j : Judged) (told : IsJudgedLate s.topology m client request j) (test : Bool) (test_is : test ≡ is_test request.flags) where
@@ -203,13 +197,13 @@ module _ (s : Script) (m : Machine) (client : ℕ) (request : Request) (is : Som
     pub refuse_late : (j.holds && (is_some j.late || (not test && is_some j.hindered))) ≡ may s m (step.Refuse client)
     unfolding may may_refuse
     refuse_late = rw (told.holds, late_some, hindered_some, test_is)
-        (sym (taking-is s m client (may_refuse s.topology m client) request takes ∙ rw told.none refl))
+        (sym (taking-is (may_refuse s.topology m client) takes ∙ rw told.none refl))
 
     pub test_late : (test && (j.holds && is_none j.late)) ≡ may s m (step.Test client)
     unfolding may may_test
     test_late =
         rw (told.holds, none-some j.late, late_some, test_is)
-        (sym (taking-is s m client (may_test s.topology m client) request takes ∙ rw (accepted_late s m request told.none) refl))
+        (sym (taking-is (may_test s.topology m client) takes ∙ rw (accepted_late s m request told.none) refl))
 
     hinders : (test b c : Bool) (holds late : Bool) → (not test && (holds && (late && (not (not test && b) && c))))
         ≡ (not test && (holds && (late && (not b && c))))
@@ -220,6 +214,6 @@ module _ (s : Script) (m : Machine) (client : ℕ) (request : Request) (is : Som
     unfolding may may_swap
     swap_late =
         rw (told.holds, none-some j.late, none-some j.hindered, late_some, hindered_some, told.ready, test_is)
-        (sym (taking-is s m client (may_swap s.topology m client) request takes ∙ rw (accepted_late s m request told.none)
+        (sym (taking-is (may_swap s.topology m client) takes ∙ rw (accepted_late s m request told.none)
         (hinders (is_test request.flags) (lacks_space s.topology m client request || is_busy s.topology m request)
         (is_ready s.topology m request) _ _)))

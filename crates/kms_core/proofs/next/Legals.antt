@@ -12,8 +12,8 @@ use Rattle.kms_core.specs.Next.{moves}
 use Rattle.kms_core.specs.Run.{Run, machine}
 use Rattle.kms_core.specs.Stands.{Stores, Stands}
 
-pub ended_told : (r v : Run) (st : Stores) → Stands r st → r ≡ v → st.stalled ≡ (machine v).stalled
-ended_told r v st stands same = sym stands.stores.ended ∙ ap (λ (w : Run). (machine w).stalled) same
+pub ended_told : {r : Run} {st : Stores} → Stands r st → st.stalled ≡ (machine r).stalled
+ended_told stands = sym stands.stores.ended
 
 module _ (v : Run) where
   pub enabled_told : (ended b : Bool) → ended ≡ (machine v).stalled → b ≡ moves v.script (machine v) → (not ended && b)
@@ -28,15 +28,17 @@ module _ (v : Run) where
       ∙ ap (λ x. not (machine v).stalled && x) (told ∙ ap (λ x. list_any able clients || x) (sym (list_any-append able commits crtcs)) ∙ sym
       (list_any-append able clients _))
 
-  pub dead_told : (ended drained enabled : Bool) → ended ≡ (machine v).stalled → drained ≡ is_drained v.script (machine v) → enabled
+  pub dead_told : {ended : Bool} (drained enabled : Bool) → ended ≡ (machine v).stalled → drained ≡ is_drained v.script (machine v) →
+      enabled
       ≡ is_enabled v.script (machine v) → (ended || (not drained && not enabled)) ≡ is_dead v.script (machine v)
   unfolding is_dead
-  dead_told ended drained enabled a b c = rw (a, b, c) refl
+  dead_told drained enabled a b c = rw (a, b, c) refl
 
-  pub stall_told : (x : Step) (ended dead : Bool) → x ≡ step.Stall → ended ≡ (machine v).stalled → dead ≡ is_dead v.script (machine v)
+  pub stall_told : {x : Step} {ended : Bool} (dead : Bool) → x ≡ step.Stall → ended ≡ (machine v).stalled → dead ≡ is_dead v.script (machine
+      v)
       → (not ended && dead) ≡ legal v.script (machine v) x
   unfolding legal
-  stall_told x ended dead is a b = rw is (rw (a, b) refl)
+  stall_told dead is a b = rw is (rw (a, b) refl)
 
   legal_is : (x : Step) → (x ≡ step.Stall → ⊥) → (not (machine v).stalled && may v.script (machine v) x) ≡ legal v.script (machine v) x
   unfolding legal

@@ -1,5 +1,5 @@
 -- Whether a client, a tail or a CRTC that goes has a step.
-use Rattle.std.proofs.Common.{◌≡◌, ℕ, ◌+◌, ◌<◌, ◌≤◌, Bool, true, false, [], ◌∷◌, ◌++◌, length, Some, None, refl, sym, ap, ◌∙◌, subst, arith}
+use Rattle.std.proofs.Common.{◌≡◌, ℕ, ◌+◌, ◌<◌, ◌≤◌, Bool, true, false, [], ◌∷◌, ◌++◌, length, Some, None, refl, sym, ap, ◌∙◌, arith}
 use Rattle.std.specs.Prelude.{◌||◌, is_some}
 use Rattle.std.specs.List.{flat_map, list_any, range_with_len}
 use Rattle.std.proofs.lemmas.Bool.{and_from, lt-ltb, or_left}
@@ -48,44 +48,40 @@ no_client_step r none = sym (any_flat (able r) (steps_of_client r.script.topolog
 
 -- Tails
 
-module _ (r v : Run) (st : Stores) (stands : Stands r st) (same : r ≡ v) where
-  pub some_tail : (from k : ℕ) → FindsFirst st.tracker from (Some k) → list_any (able v) (steps_of_commit v.script.topology k) ≡ true
-      → true ≡ list_any (able v) (flat_map (steps_of_commit v.script.topology) (commit_numbers (machine v)))
+module _ {r : Run} {st : Stores} (stands : Stands r st) where
+  pub some_tail : (from k : ℕ) → FindsFirst st.tracker from (Some k) → list_any (able r) (steps_of_commit r.script.topology k) ≡ true
+      → true ≡ list_any (able r) (flat_map (steps_of_commit r.script.topology) (commit_numbers (machine r)))
   some_tail from k first moves =
-      let found = first r.script.topology (machine r).device.commits (machine r).device.marks
-      (machine r).records.latches stands.stores.tracker in
-      let within = found.1 in
-      let size = ap (λ (w : Run). length (machine w).device.commits) same in
-      sym (any_flat (able v) (steps_of_commit v.script.topology) (commit_numbers (machine v)) ∙ one_passes
-      (λ j. list_any (able v) (steps_of_commit v.script.topology j)) 0 (length (machine v).device.commits) k (omega arith)
-      (omega (arith, within, size)) moves)
+      let within = (first r.script.topology (machine r).device.commits (machine r).device.marks (machine r).records.latches
+      stands.stores.tracker).1 in
+      sym (any_flat (able r) (steps_of_commit r.script.topology) (commit_numbers (machine r)) ∙ one_passes
+      (λ j. list_any (able r) (steps_of_commit r.script.topology j)) 0 (length (machine r).device.commits) k (omega arith)
+      (omega (arith, within)) moves)
 
-  cleaned_rests : (j : ℕ) → has_number (machine r).device.marks.cleaned j ≡ true → list_any (able v) (steps_of_commit v.script.topology j)
+  cleaned_rests : (j : ℕ) → has_number (machine r).device.marks.cleaned j ≡ true → list_any (able r) (steps_of_commit r.script.topology j)
       ≡ false
-  cleaned_rests j clean = subst (λ (w : Run). list_any (able w) (steps_of_commit w.script.topology j) ≡ false) same
-      (list_any-none (able r) (steps_of_commit r.script.topology j)
-      (λ step is. no_step r.script (machine r) (facts r st stands).holds j clean step is))
+  cleaned_rests j clean = list_any-none (able r) (steps_of_commit r.script.topology j)
+      (λ step is. no_step r.script (machine r) (facts stands).holds j clean step is)
 
   pub no_tail_step : (from : ℕ) → FindsFirst st.tracker from None
-      → ((j : ℕ) → j < from → list_any (able v) (steps_of_commit v.script.topology j) ≡ false)
-      → false ≡ list_any (able v) (flat_map (steps_of_commit v.script.topology) (commit_numbers (machine v)))
+      → ((j : ℕ) → j < from → list_any (able r) (steps_of_commit r.script.topology j) ≡ false)
+      → false ≡ list_any (able r) (flat_map (steps_of_commit r.script.topology) (commit_numbers (machine r)))
   no_tail_step from first before =
-      let size = ap (λ (w : Run). length (machine w).device.commits) same in
-      sym (any_flat (able v) (steps_of_commit v.script.topology) (commit_numbers (machine v))
-      ∙ none_pass (λ j. list_any (able v) (steps_of_commit v.script.topology j)) 0 (length (machine v).device.commits)
+      sym (any_flat (able r) (steps_of_commit r.script.topology) (commit_numbers (machine r))
+      ∙ none_pass (λ j. list_any (able r) (steps_of_commit r.script.topology j)) 0 (length (machine r).device.commits)
       (λ j low high.
       of_all r.script.topology (machine r).device.commits (machine r).device.marks
-      (machine r).records.latches st.tracker stands.stores.tracker (λ i. list_any (able v) (steps_of_commit v.script.topology i) ≡ false)
+      (machine r).records.latches st.tracker stands.stores.tracker (λ i. list_any (able r) (steps_of_commit r.script.topology i) ≡ false)
       cleaned_rests from first before j
-      (omega (arith, high, size))))
+      (omega (arith, high))))
 
-  pub rests_further : (from k : ℕ) → FindsFirst st.tracker from (Some k) → list_any (able v) (steps_of_commit v.script.topology k) ≡ false
-      → ((j : ℕ) → j < from → list_any (able v) (steps_of_commit v.script.topology j) ≡ false)
-      → (j : ℕ) → j < k + 1 → list_any (able v) (steps_of_commit v.script.topology j) ≡ false
+  pub rests_further : (from k : ℕ) → FindsFirst st.tracker from (Some k) → list_any (able r) (steps_of_commit r.script.topology k) ≡ false
+      → ((j : ℕ) → j < from → list_any (able r) (steps_of_commit r.script.topology j) ≡ false)
+      → (j : ℕ) → j < k + 1 → list_any (able r) (steps_of_commit r.script.topology j) ≡ false
   rests_further =
       up_to_first r.script.topology (machine r).device.commits (machine r).device.marks
       (machine r).records.latches st.tracker stands.stores.tracker
-      (λ j. list_any (able v) (steps_of_commit v.script.topology j) ≡ false) cleaned_rests
+      (λ j. list_any (able r) (steps_of_commit r.script.topology j) ≡ false) cleaned_rests
 
 module _ (r : Run) where
   -- Steps of a client, and of a commit, group by group
@@ -167,6 +163,6 @@ module _ (r : Run) where
   no_go rests = sym (go_told ∙ none_pass has_go 0 (count_of r.script.topology Crtc) (λ j low high. rests j (omega (arith, high))))
 
 -- the end of a history is no such step
-pub stall_never : (r : Run) (x : Step) → x ≡ step.Stall → false ≡ able r x
+pub stall_never : (r : Run) {x : Step} → x ≡ step.Stall → false ≡ able r x
 unfolding may
-stall_never r x is = ap (able r) (sym is)
+stall_never r is = ap (able r) (sym is)

@@ -30,12 +30,12 @@ use Rattle.kms_model.specs.Request.Reach.{reaches}
 use Rattle.kms_model.specs.Request.Touched.{is_affected, sets, touches, touches_crtc}
 use Rattle.kms_model.specs.Request.Verdict.{early_in}
 use Rattle.kms_model.specs.Script.WellFormed.{IsWellFormed}
+use Rattle.kms_model.proofs.Facts.{value-is}
 use Rattle.kms_model.proofs.KindsOfIds.{kind_of-object}
 use Rattle.kms_model.proofs.MaskLemmas.{has_bit-below}
 use Rattle.kms_model.proofs.ReachLaw.{reach-is}
 use Rattle.kms_model.proofs.TouchedLemmas.{few_objects}
 use Rattle.kms_model.proofs.UnionLemmas.{has_bit-zero}
-use Rattle.kms_laws.proofs.Steps.{value-is}
 use Rattle.kms_request.specs.Groups.{affected_below}
 use Rattle.kms_request.specs.Whole.{is_member}
 use Rattle.kms_request.proofs.AffectedLemmas.{affected-is}
@@ -84,23 +84,24 @@ module _ (t : Topology) (w : World) (n : Needs) (needs : AreNeeds t w n) where
   affected_told Enc i few on = absurd (false≢true on)
 
 -- what is touched, of the objects that have a lock
-pub touched_told : (t : Topology) (w : World) (n : Needs) (k : Kind) (i : ℕ) → AreNeeds t w n → IsDevice t → is_lockable t k i ≡ true
+pub touched_told : {t : Topology} {w : World} {n : Needs} (k : Kind) (i : ℕ) → AreNeeds t w n → IsDevice t → is_lockable t k i ≡ true
     → is_member n.touched k i ≡ touches t w n.request.now (object_id k i)
-touched_told t w n k i needs device on = ap (λ (m : Mask). is_member m k i) needs.touched ∙ touched-member t w n.request.now k i device
+touched_told {t} {w} {n} k i needs device on = ap (λ (m : Mask). is_member m k i) needs.touched ∙ touched-member t w n.request.now k i
+    device
     (lockable_exists t k i on)
 
 -- an object that has a lock has a small index
-pub lockable_few : (t : Topology) (k : Kind) (i : ℕ) → IsDevice t → is_lockable t k i ≡ true → i < 16
-lockable_few t Crtc i device on = let lt = ltb-true i t.crtcs on in omega (arith, lt, (few_objects t device).crtcs)
-lockable_few t Plane i device on = let lt = ltb-true i (length t.planes) on in omega (arith, lt, (few_objects t device).planes)
-lockable_few t Conn i device on = let lt = ltb-true i (length t.conns) on in omega (arith, lt, (few_objects t device).conns)
-lockable_few t Enc i device on = absurd (false≢true on)
+pub lockable_few : {t : Topology} (k : Kind) (i : ℕ) → IsDevice t → is_lockable t k i ≡ true → i < 16
+lockable_few {t} Crtc i device on = let lt = ltb-true i t.crtcs on in omega (arith, lt, (few_objects t device).crtcs)
+lockable_few {t} Plane i device on = let lt = ltb-true i (length t.planes) on in omega (arith, lt, (few_objects t device).planes)
+lockable_few {t} Conn i device on = let lt = ltb-true i (length t.conns) on in omega (arith, lt, (few_objects t device).conns)
+lockable_few Enc i device on = absurd (false≢true on)
 
 -- what the states of a check tell to be affected is what the request affects
-pub affected_alike : (r : Run) (request : Request) (checked : Checked) → IsWellFormed r.script → is_history r.script r.steps ≡ true
+pub affected_alike : (r : Run) {request : Request} {checked : Checked} → IsWellFormed r.script → is_history r.script r.steps ≡ true
     → early_in r.script.topology (world r) request ≡ None → IsChecked r.script.topology (world r) request checked → HasStates checked
     → affected_below checked.states.crtcs checked.named 4 ≡ affected_group r.script.topology (world r) request
-affected_alike r request checked formed history none is all =
+affected_alike r {request} {checked} formed history none is all =
     let t = r.script.topology in
     let w = world r in
     let there : (i : ℕ) → i < t.crtcs → names w.values (after w request) request.assigns (object_id Crtc i) ≡ true
@@ -124,19 +125,19 @@ abbrev only_crtcs : ℕ → Mask
 only_crtcs crtcs = record { crtcs = crtcs; planes = 0; conns = 0 }
 
 -- as the call finds it
-pub needs_at : (v : Run) (client : ℕ) (n : Needs) (checked : Checked) → IsWellFormed v.script → is_history v.script v.steps ≡ true
+pub needs_at : (v : Run) (client : ℕ) (n : Needs) {checked : Checked} → IsWellFormed v.script → is_history v.script v.steps ≡ true
     → Some n.request.now ≡ request_taken v.script (machine v) client → early_in v.script.topology (world v) n.request.now ≡ None
     → IsChecked v.script.topology (world v) n.request.now checked → HasStates checked
     → n.named ≡ record { crtcs = checked.named; planes = 0; conns = 0 } → n.affected ≡ affected_below checked.states.crtcs checked.named 4
     → n.touched ≡ checked.touched → NeedsLocks v client n
-needs_at v client n checked formed history taken none is all named_is affected_is touched_is =
+needs_at v client n formed history taken none is all named_is affected_is touched_is =
     let q = n.request.now in
     record {
       taken = taken;
       none = none;
       needs = record {
         named = named_is ∙ ap only_crtcs is.named;
-        affected = affected_is ∙ affected_alike v q checked formed history none is all;
+        affected = affected_is ∙ affected_alike v formed history none is all;
         touched = touched_is ∙ is.touched;
       };
       device = formed.device;
@@ -170,10 +171,11 @@ module _ (s : Script) (m : Machine) (client : ℕ) (r : Request) where
   by_first false true = refl
   by_first false false = refl
 
-  pub next_told : (g : Group) (first other : Option ℕ) → g ≡ first_lacked s.topology m client r → first ≡ opens g → other ≡ opens group.Any
+  pub next_told : {g : Group} {first : Option ℕ} (other : Option ℕ) → g ≡ first_lacked s.topology m client r → first ≡ opens g → other ≡
+      opens group.Any
       → or_else first other ≡ next_lock s m client r
   unfolding next_lock first_missing
-  next_told g first other g_is first_is other_is =
+  next_told other g_is first_is other_is =
       let p = may_lock s m client in
       let t = s.topology in
       let w = m.device.world in
@@ -197,9 +199,9 @@ module _ (s : Script) (m : Machine) (client : ℕ) (r : Request) where
       ≡ may_lock s m client (object_id k i)
   unfolding may_lock
   allowed_told k i touched free taken none touched_is free_is =
-      let takes = taken_parts s m client r taken in
+      let takes = taken_parts s m client taken in
       let reached = touched_is ∙ sym (reach-is s.topology m.device.world r (object_id k i) none) ∙ sym
-      (taking-is s m client (λ q. reaches s.topology m.device.world q (object_id k i)) r takes) in
+      (taking-is (λ q. reaches s.topology m.device.world q (object_id k i)) takes) in
       (λ j. reached j && free_is j)
 
 -- the first of the objects that have a lock, kind by kind

@@ -6,11 +6,11 @@ use Rattle.kms_core.specs.Run.{Run}
 use Rattle.kms_core.specs.Stands.{Stores, Stands}
 use Rattle.kms_core.proofs.stores.Seeking.{few_tails, goes_up, less_left}
 
-module _ (r : Run) (st : Stores) (stands : Stands r st) (from k : ℕ) (first : FindsFirst st.tracker from (Some k)) where
+module _ {r : Run} {st : Stores} (stands : Stands r st) (from k : ℕ) (first : FindsFirst st.tracker from (Some k)) where
   -- there is a number behind the one found
   pub more_fits : Fits w32 (k + 1)
-  more_fits = (let l = (goes_up st.tracker from k (few_tails r st stands) first).fits in omega (arith, l))
+  more_fits = (let l = (goes_up from k (few_tails stands) first).fits in omega (arith, l))
 
   -- and fewer are left from there
   pub fewer_left : 4294967296 - (k + 1) < 4294967296 - from
-  fewer_left = less_left st.tracker from k (few_tails r st stands) first
+  fewer_left = less_left from k (few_tails stands) first

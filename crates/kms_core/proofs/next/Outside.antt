@@ -1,6 +1,6 @@
 -- Numbers that the script has no client for: such a client is idle at its first command, after any steps.
 use Rattle.std.proofs.Common.{◌≡◌, ℕ, true, List, ◌∷◌, Some, None, refl, sym, ap, ◌∙◌, subst, ⊎_elim}
-use Rattle.std.proofs.lemmas.Bool.{and_parts, cases_eq, false≢true}
+use Rattle.std.proofs.lemmas.Bool.{cases_eq, false≢true}
 use Rattle.kms_model.specs.declared.replies.Step.{Step}
 use Rattle.kms_model.specs.declared.runs.Doing.{Doing}
 use Rattle.kms_model.specs.declared.runs.Doing.TheVariants as doing
@@ -13,9 +13,9 @@ use Rattle.kms_model.specs.Machine.Effects.{answers, goes_on, signals}
 use Rattle.kms_model.specs.Machine.Histories.{at, is_history}
 use Rattle.kms_model.specs.Machine.Registers.{read}
 use Rattle.kms_model.specs.Machine.State.{Machine, command_at, doing_at, first_machine, place_at}
-use Rattle.kms_model.specs.Machine.Steps.{contended, is_taking, may_lock, must_back_off, returning_of, taking_at}
-use Rattle.kms_model.specs.Request.Reach.{reaches}
+use Rattle.kms_model.specs.Machine.Steps.{contended, is_taking, must_back_off, returning_of}
 use Rattle.kms_wwlock.specs.Standing.{first_place}
+use Rattle.kms_model.proofs.Guards.{lock_guards}
 use Rattle.kms_laws.proofs.Basics.{read_other}
 use Rattle.kms_laws.proofs.EachStep.{Carries, by_bool, by_fence, by_two, each_step, made_as, swapped_as, tails_leave}
 use Rattle.kms_laws.proofs.Steps.{along}
@@ -45,42 +45,37 @@ returning_busy : (d : Doing) (k : ℕ) → returning_of d ≡ Some k → d ≡ d
 returning_busy d k asked idle = let none : None ≡ Some k = ap returning_of (sym idle) ∙ asked in cc
 
 module _ (s : Script) (m : Machine) (all : AreOutside s m.contexts.places) where
-  by_command : (client : ℕ) (c : Command) → command_at s m client ≡ Some c → (p : Place) → AreOutside s ((client, p) ∷ m.contexts.places)
-  by_command client c is p = moved s m.contexts.places client p (λ away. away (client_there s m client c is)) all
+  by_command : (client : ℕ) {c : Command} → command_at s m client ≡ Some c → (p : Place) → AreOutside s ((client, p) ∷ m.contexts.places)
+  by_command client {c} is p = moved s m.contexts.places client p (λ away. away (client_there s m client c is)) all
 
   by_doing : (client : ℕ) → (doing_at m client ≡ doing.Idle → ⊥) → (p : Place) → AreOutside s ((client, p) ∷ m.contexts.places)
   by_doing client busy p = moved s m.contexts.places client p (λ away. busy (ap (λ (q : Place). q.doing) (all client away))) all
 
-  lock_taking : (client object : ℕ) → may_lock s m client object ≡ true → is_taking (doing_at m client) ≡ true
-  unfolding may_lock
-  lock_taking client object h = (and_parts (is_taking (doing_at m client)) _
-      (and_parts (taking_at s m client (λ r. reaches s.topology m.device.world r object)) _ h).0).0
-
   carries_outside : Carries s m (λ step n. AreOutside s n.contexts.places)
   carries_outside = record {
     locks = record {
-      begins = λ client c e atomic idle. by_command client c e _;
+      begins = λ client c e atomic idle. by_command client e _;
       takes = λ client kind index is_there lock free. all;
       meets = λ client kind index holder is_there lock held. by_doing client
-          (taking_busy _ (lock_taking client (object_id kind index) lock)) _;
+          (taking_busy _ (lock_guards s m client (object_id kind index) lock).reaching.taking) _;
       backs = λ client back. by_doing client (back_busy _ back) _;
       relocks = λ client object asked free. by_doing client (contended_busy _ object asked) _;
       returned = λ client k e clean. by_doing client (returning_busy _ k e) _;
     };
     answers = record {
-      refuses = λ client r e taking may. by_command client _ e _;
-      tests = λ client r e taking may. by_command client _ e _;
+      refuses = λ client r e taking may. by_command client e _;
+      tests = λ client r e taking may. by_command client e _;
       swaps = λ client r e taking may b w eb ew.
-          by_two (λ b w. AreOutside s (swapped_as s.topology b w m client r).contexts.places) (by_command client _ e _)
-          (by_command client _ e _) (by_command client _ e _) (by_command client _ e _) b w;
+          by_two (λ b w. AreOutside s (swapped_as s.topology b w m client r).contexts.places) (by_command client e _)
+          (by_command client e _) (by_command client e _) (by_command client e _) b w;
       makes = λ client c e making idle b eb.
           by_bool (λ b. AreOutside s (made_as b m client (execute s.topology m.device.world client c)).contexts.places)
-          (by_command client c e _) (by_command client c e _) b;
+          (by_command client e _) (by_command client e _) b;
       signalled = λ client c e is_signal idle o.
           by_fence (λ o. AreOutside s (goes_on (signals (answers m client (execute s.topology m.device.world client c).reply) o)
-          client).contexts.places) (by_command client c e _) (λ fence. by_command client c e _) o;
-      read_none = λ client c e is_wait idle none. by_command client c e _;
-      read_one = λ client c e is_wait idle event events some. by_command client c e _;
+          client).contexts.places) (by_command client e _) (λ fence. by_command client e _) o;
+      read_none = λ client c e is_wait idle none. by_command client e _;
+      read_one = λ client c e is_wait idle event events some. by_command client e _;
     };
     tails = tails_leave s m (λ step left. AreOutside s left.contexts.places) (λ step. all);
     stalled = λ h. all;

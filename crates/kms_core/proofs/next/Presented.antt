@@ -17,8 +17,8 @@ use Rattle.kms_core.specs.Stands.{Stores, Stands}
 pub sound_now : (v : Run) → IsWellFormed v.script → is_history v.script v.steps ≡ true → IsSound v.script.topology (world v)
 sound_now v formed history = (history_kept v.script v.steps (plain-from v.script formed) history).present.lawful.sound
 
-pub presented : (r : Run) (st : Stores) → Stands r st → ArePresent r.script.topology (world r) st.present
-presented r st stands =
+pub presented : {r : Run} {st : Stores} → Stands r st → ArePresent r.script.topology (world r) st.present
+presented {r} stands =
     let states = stands.stores.world.states in
     record {
       device = stands.formed.device;
@@ -29,18 +29,18 @@ presented r st stands =
       all = record { crtcs = states.whole.crtcs.there; planes = states.whole.planes.there; conns = states.whole.conns.there };
     }
 
-pub tells_now : (r : Run) (st : Stores) → Stands r st
+pub tells_now : {r : Run} {st : Stores} → Stands r st
     → TellSame (λ label. look_of (thing_labelled st.made.things label)) (look_up (world r))
-tells_now r st stands label = ap (λ (things : List Thing). look_of (thing_labelled things label)) (sym stands.stores.world.things)
+tells_now stands label = ap (λ (things : List Thing). look_of (thing_labelled things label)) (sym stands.stores.world.things)
 
-pub tells_ever : (r : Run) (st : Stores) → Stands r st
+pub tells_ever : {r : Run} {st : Stores} → Stands r st
     → TellSame (λ label. look_of_any (thing_labelled st.made.things label)) (look_up_any (world r))
-tells_ever r st stands label = ap (λ (things : List Thing). look_of_any (thing_labelled things label)) (sym stands.stores.world.things)
+tells_ever stands label = ap (λ (things : List Thing). look_of_any (thing_labelled things label)) (sym stands.stores.world.things)
 
-pub somewhere_now : (r : Run) (st : Stores) → Stands r st
+pub somewhere_now : {r : Run} {st : Stores} → Stands r st
     → ArePresentSomewhere look_up r.script.topology (λ label. look_of (thing_labelled st.made.things label)) st.present
-somewhere_now r st stands = record { world = world r; present = presented r st stands; tells = tells_now r st stands }
+somewhere_now {r} {st} stands = record { world = world r; present = presented stands; tells = tells_now stands }
 
-pub somewhere_ever : (r : Run) (st : Stores) → Stands r st
+pub somewhere_ever : {r : Run} {st : Stores} → Stands r st
     → ArePresentSomewhere look_up_any r.script.topology (λ label. look_of_any (thing_labelled st.made.things label)) st.present
-somewhere_ever r st stands = record { world = world r; present = presented r st stands; tells = tells_ever r st stands }
+somewhere_ever {r} {st} stands = record { world = world r; present = presented stands; tells = tells_ever stands }

@@ -2,7 +2,7 @@
 use Rattle.std.proofs.Common.{◌≡◌, ℕ, ◌<◌, List, Bool, true, false, Option, Some, None, refl, sym, ap, ◌∙◌, subst}
 use Rattle.std.specs.Prelude.{◌&&◌, ◌||◌, not, is_some, nat_lt}
 use Rattle.std.specs.List.{All}
-use Rattle.std.proofs.lemmas.Bool.{and_parts, false≢true, ltb-true, not-true}
+use Rattle.std.proofs.lemmas.Bool.{and_parts, false≢true, ltb-true}
 use Rattle.kms_model.specs.declared.objects.Kind.{Kind}
 use Rattle.kms_model.specs.declared.objects.Kind.TheVariants.{Conn, Crtc, Plane}
 use Rattle.kms_model.specs.declared.objects.Topology.{Topology}
@@ -27,8 +27,8 @@ use Rattle.kms_model.specs.Device.World.{thing_labelled}
 use Rattle.kms_model.specs.Machine.Effects.{busy_reply, decided, next, refusal_reply, refused}
 use Rattle.kms_model.specs.Machine.Histories.{legal}
 use Rattle.kms_model.specs.Machine.State.{Machine, command_at, doing_at, request_at}
-use Rattle.kms_model.specs.Machine.Steps.{first_pending, holds_touched, is_busy, is_taking, lacks_space, may, may_refuse, may_swap}
-use Rattle.kms_model.specs.Machine.Steps.{may_test, space_used, taking_at}
+use Rattle.kms_model.specs.Machine.Steps.{first_pending, is_busy, is_taking, lacks_space, may, may_refuse, may_swap}
+use Rattle.kms_model.specs.Machine.Steps.{may_test, space_used}
 use Rattle.kms_model.specs.Request.Deciding.{IsChecked}
 use Rattle.kms_model.specs.Request.Flags.{is_test}
 use Rattle.kms_model.specs.Request.Lookups.{look_of, look_up, lookups}
@@ -39,21 +39,20 @@ use Rattle.kms_model.specs.Request.Sets.{look_in}
 use Rattle.kms_model.specs.Request.Touched.{named_by, touched_by}
 use Rattle.kms_model.specs.Request.Verdict.{early_in, late_in, verdict}
 use Rattle.kms_model.specs.Script.WellFormed.{IsWellFormed}
+use Rattle.kms_model.proofs.Guards.{IsSwapping, IsTakingAt, legal-going, legal_guards, swap_guards, taking_passes}
 use Rattle.kms_model.proofs.Items.{or_else-none}
 use Rattle.kms_model.proofs.MaskLemmas.{has_bit-mask_below}
 use Rattle.kms_model.proofs.RequestLemmas.{accepted_allowed, all_settable}
 use Rattle.kms_model.proofs.SameLooks.{world_tells}
 use Rattle.kms_wwlock.specs.Standing.{IsClient}
-use Rattle.kms_laws.proofs.EachStep.{swap-found}
 use Rattle.kms_laws.proofs.Steps.{request-is}
-use Rattle.kms_laws.proofs.Steps as steps_of
 use Rattle.kms_request.specs.declared.errors.RequestError.{RequestError}
 use Rattle.kms_request.specs.declared.errors.RequestError.TheVariants.{Of}
 use Rattle.kms_request.specs.Answers.{ComesFrom, refusal_number}
 use Rattle.kms_request.specs.Whole.{ArePresent, StandBetween, TellSame}
 use Rattle.kms_core.specs.declared.next.judgement.Judged.{Judged}
 use Rattle.kms_core.specs.Decisions.{Decides, world}
-use Rattle.kms_core.specs.Judging.{IsJudged, IsJudgedLate, request_taken}
+use Rattle.kms_core.specs.Judging.{IsJudgedLate, request_taken}
 use Rattle.kms_core.specs.Next.{IsLegal}
 use Rattle.kms_core.specs.Run.{Run, machine}
 use Rattle.kms_core.specs.Stands.{Stores, Stands}
@@ -64,15 +63,15 @@ use Rattle.kms_core.proofs.next.JudgedRequests.{no_refuse, no_swap, refuse_late}
 use Rattle.kms_core.proofs.Lates.{late_parts}
 use Rattle.kms_core.proofs.Places.{client_there, is_client}
 use Rattle.kms_core.proofs.next.Presented.{presented, tells_now}
-use Rattle.kms_core.proofs.next.Taken.{Takes, taken_parts, taking-is}
+use Rattle.kms_core.proofs.next.Taken.{Takes, taken_parts}
 
 -- The early refusals
 
-early_is : (r : Run) (st : Stores) (request : Request) (o : Option Refusal) → Stands r st
+early_is : {r : Run} {st : Stores} (request : Request) (o : Option Refusal) → Stands r st
     → refusal_number o ≡ early_refusal r.script.topology (λ label. look_of (thing_labelled st.made.things label)) request
     → early_in r.script.topology (world r) request ≡ refusal_number o
-early_is r st request o stands first =
-    let looks : (λ label. look_of (thing_labelled st.made.things label)) ≡ look_up (world r) = λ i label. tells_now r st stands label i in
+early_is {r} {st} request o stands first =
+    let looks : (λ label. look_of (thing_labelled st.made.things label)) ≡ look_up (world r) = λ i label. tells_now stands label i in
     ap (λ g. early_refusal r.script.topology g request) (sym looks) ∙ sym first
 
 early_replied : (s : Script) (m : Machine) (client : ℕ) (request : Request) (why : Refusal) → early_in s.topology m.device.world request
@@ -81,22 +80,13 @@ early_replied : (s : Script) (m : Machine) (client : ℕ) (request : Request) (w
 unfolding verdict
 early_replied s m client request why is = rw is refl
 
-pub refused_early : (r v : Run) (st : Stores) (client : ℕ) (request : Request) (why : Refusal) → Stands r st → r ≡ v
+pub refused_early : {r v : Run} {st : Stores} (client : ℕ) (request : Request) (why : Refusal) → Stands r st → r ≡ v
     → refusal_number (Some why) ≡ early_refusal r.script.topology (λ label. look_of (thing_labelled st.made.things label)) request
     → reply.Refused why ≡ refusal_reply v.script.topology (machine v) client request (verdict v.script.topology (world v) request)
-refused_early r v st client request why stands same first =
+refused_early {r} client request why stands same first =
     subst (λ (w : Run). reply.Refused why ≡ refusal_reply w.script.topology (machine w) client request
     (verdict w.script.topology (world w) request)) same
-    (early_replied r.script (machine r) client request why (early_is r st request (Some why) stands first))
-
--- one of these is due where nothing more is told
-pub judged_some : (r v : Run) (st : Stores) (client : ℕ) (request : Request) → Stands r st → r ≡ v
-    → refusal_number None ≡ early_refusal r.script.topology (λ label. look_of (thing_labelled st.made.things label)) request
-    → IsJudged v.script.topology (machine v) client request None → ⊥
-judged_some r v st client request stands same first told =
-    let now : is_some (early_in r.script.topology (world r) request)
-    ≡ true = subst (λ (w : Run). IsJudged w.script.topology (machine w) client request None) (sym same) told in
-    false≢true (sym (ap (λ (n : Option ℕ). is_some n) (early_is r st request None stands first)) ∙ now)
+    (early_replied r.script (machine r) client request why (early_is request (Some why) stands first))
 
 -- The others
 
@@ -135,9 +125,9 @@ module _ (s : Script) (m : Machine) (client : ℕ) (request : Request) (j : Judg
 -- Accepted requests
 
 -- all that is touched is duplicated, where all is
-all_states : (t : Topology) (w : World) (request : Request) (checked : Checked) → StandBetween t w request checked.states
+all_states : {t : Topology} {w : World} {request : Request} (checked : Checked) → StandBetween t w request checked.states
     → checked.touched ≡ touched_by t w request → HasStates checked
-all_states t w request checked stand touched = record {
+all_states {t} {w} {request} checked stand touched = record {
   crtcs = λ i few has. there_at checked.states.crtcs i
       (stand.all.crtcs i (within Crtc (λ (m : Mask). m.crtcs) i _ (has_bit-mask_below _ (count_of t Crtc) i) has));
   planes = λ i few has. there_at checked.states.planes i
@@ -159,9 +149,9 @@ settable_now r request formed none =
     all_settable t (look_up (world r)) request.assigns (and_parts (keeps_limits t) _ formed.device.legal).0
     (accepted_allowed t (look_up (world r)) request none)
 
-pub early_at : (r v : Run) (request : Request) → r ≡ v → early_in v.script.topology (world v) request ≡ None
+pub early_at : {r v : Run} (request : Request) → r ≡ v → early_in v.script.topology (world v) request ≡ None
     → early_in r.script.topology (world r) request ≡ None
-early_at r v request same none = subst (λ (w : Run). early_in w.script.topology (world w) request ≡ None) (sym same) none
+early_at request same none = subst (λ (w : Run). early_in w.script.topology (world w) request ≡ None) (sym same) none
 
 -- what is given of the states after a request
 pub record IsSpanned (r : Run) (request : Request) (checked : Checked) : Type 0 where
@@ -169,7 +159,7 @@ pub record IsSpanned (r : Run) (request : Request) (checked : Checked) : Type 0 
   pub named : checked.named ≡ named_by r.script.topology (world r) request
   pub touched : checked.touched ≡ touched_by r.script.topology (world r) request
 
-pub spanned : (r : Run) (st : Stores) (request : Request) (states : Duplicates) (spans : ℕ × Mask) → Stands r st
+pub spanned : {r : Run} {st : Stores} (request : Request) (states : Duplicates) (spans : ℕ × Mask) → Stands r st
     → early_in r.script.topology (world r) request ≡ None
     → ((w : World) → ArePresent r.script.topology w st.present
     → TellSame (λ label. look_of (thing_labelled st.made.things label)) (look_up w) → early_in r.script.topology w request ≡ None
@@ -177,18 +167,18 @@ pub spanned : (r : Run) (st : Stores) (request : Request) (states : Duplicates) 
     → ((t : Topology) (w : World) → StandBetween t w request states → spans.0 ≡ named_by t w request)
     → ((t : Topology) (w : World) → StandBetween t w request states → spans.1 ≡ touched_by t w request)
     → IsSpanned r request (record { states = states; named = spans.0; touched = spans.1 })
-spanned r st request states spans stands none between named touched =
-    let stand = between (world r) (presented r st stands) (tells_now r st stands) none in
+spanned {r} {st} request states spans stands none between named touched =
+    let stand = between (world r) (presented stands) (tells_now stands) none in
     record { stand = stand; named = named r.script.topology (world r) stand; touched = touched r.script.topology (world r) stand }
 
-pub checked_now : (r v : Run) (request : Request) (checked : Checked) → r ≡ v → IsSpanned r request checked
+pub checked_now : {r v : Run} {request : Request} {checked : Checked} → r ≡ v → IsSpanned r request checked
     → IsChecked v.script.topology (world v) request checked
-checked_now r v request checked same spans =
+checked_now {request} {checked} same spans =
     subst (λ (w : Run). IsChecked w.script.topology (world w) request checked) same
     (record { old = spans.stand.old; new = spans.stand.new; named = spans.named; touched = spans.touched })
 
-pub states_now : (r : Run) (request : Request) (checked : Checked) → IsSpanned r request checked → HasStates checked
-states_now r request checked spans = all_states r.script.topology (world r) request checked spans.stand spans.touched
+pub states_now : {r : Run} {request : Request} {checked : Checked} → IsSpanned r request checked → HasStates checked
+states_now {r} {request} {checked} spans = all_states checked spans.stand spans.touched
 
 -- Decisions
 
@@ -199,18 +189,15 @@ record TakesSome (r : Run) (client : ℕ) : Type 0 where
   at : request_at r.script (machine r) client ≡ Some request
   number : IsClient client
 
-takes_some : (r : Run) (client : ℕ) (test : Request → Bool) → IsWellFormed r.script → taking_at r.script (machine r) client test ≡ true
+takes_some : (r : Run) (client : ℕ) (test : Request → Bool) → IsWellFormed r.script → IsTakingAt r.script (machine r) client test
     → TakesSome r client
-takes_some r client test formed h = by (request_at r.script (machine r) client) refl where
-  by : (o : Option Request) → request_at r.script (machine r) client ≡ o → TakesSome r client
-  by None e = absurd (steps_of.taking-none r.script (machine r) client test e h)
-  by (Some q) e = record {
-    request = q;
-    taking = (and_parts (is_taking (doing_at (machine r) client)) _ h).0;
-    at = e;
-    number = is_client r.script client formed (client_there r.script (machine r) client (command.Atomic q)
-        (request-is (command_at r.script (machine r) client) q e));
-  }
+takes_some r client test formed g = record {
+  request = g.request;
+  taking = g.taking;
+  at = g.stands;
+  number = is_client client formed (client_there r.script (machine r) client (command.Atomic g.request)
+      (request-is (command_at r.script (machine r) client) g.request g.stands));
+}
 
 may_of : (r : Run) (step : Step) → legal r.script (machine r) step ≡ true → (not (machine r).stalled && may r.script (machine r) step)
     ≡ legal r.script (machine r) step → may r.script (machine r) step ≡ true
@@ -232,19 +219,21 @@ swap_taken v client is none = false≢true (no_swap v.script (machine v) client 
 
 pub decides_test : (v : Run) (client : ℕ) → IsWellFormed v.script → IsLegal v (step.Test client)
     → Decides v client (step.Test client) reply.Tested
-unfolding legal may next
+unfolding next
 decides_test v client formed is =
-    let takes = takes_some v client (may_test v.script.topology (machine v) client) formed (and_parts (not (machine v).stalled) _ is).1 in
+    let takes = takes_some v client (may_test v.script.topology (machine v) client) formed
+    (legal_guards v.script (machine v) (step.Test client) is) in
     record { number = takes.number; taking = takes.taking; legal = is; does = refl }
 
-pub decides_refuse : (v : Run) (client : ℕ) (request : Request) (given : Reply) → IsWellFormed v.script → IsLegal v (step.Refuse client)
+pub decides_refuse : (v : Run) (client : ℕ) {request : Request} {given : Reply} → IsWellFormed v.script → IsLegal v (step.Refuse client)
     → Some request ≡ request_taken v.script (machine v) client
     → given ≡ refusal_reply v.script.topology (machine v) client request (verdict v.script.topology (world v) request)
     → Decides v client (step.Refuse client) given
-unfolding legal may next refused
-decides_refuse v client request given formed is taken told =
-    let takes = takes_some v client (may_refuse v.script.topology (machine v) client) formed (and_parts (not (machine v).stalled) _ is).1 in
-    let mine = taken_parts v.script (machine v) client request taken in
+unfolding next refused
+decides_refuse v client {request} formed is taken told =
+    let takes = takes_some v client (may_refuse v.script.topology (machine v) client) formed
+    (legal_guards v.script (machine v) (step.Refuse client) is) in
+    let mine = taken_parts v.script (machine v) client taken in
     record {
       number = takes.number;
       taking = takes.taking;
@@ -253,48 +242,36 @@ decides_refuse v client request given formed is taken told =
     }
 
 -- what a swap that is legal finds
-pub record IsSwapped (v : Run) (client : ℕ) (request : Request) : Type 0 where
-  pub no_test : is_test request.flags ≡ false
-  pub held : holds_touched v.script.topology (machine v) client request ≡ true
-  pub none : verdict v.script.topology (world v) request ≡ None
+swap_parts : (v : Run) {client : ℕ} {request : Request} → IsLegal v (step.Swap client) → Takes v.script (machine v) client request
+    → IsSwapping v.script.topology (machine v) client request
+swap_parts v {client} {request} is takes = swap_guards v.script.topology (machine v) client request
+    (taking_passes v.script (machine v) client (may_swap v.script.topology (machine v) client)
+    (legal_guards v.script (machine v) (step.Swap client) is) request takes.at)
 
-swap_parts : (v : Run) (client : ℕ) (request : Request) → IsLegal v (step.Swap client) → Takes v.script (machine v) client request
-    → IsSwapped v client request
-unfolding may
-swap_parts v client request is takes =
-    let found = swap-found v.script.topology (machine v) client request
-    (sym (taking-is v.script (machine v) client (may_swap v.script.topology (machine v) client) request takes) ∙ may_swap_now v client
-    is) in
-    record { no_test = found.no_test; held = found.held; none = found.accepted }
-
-pub swap_early_none : (v : Run) (client : ℕ) (request : Request) → IsLegal v (step.Swap client) → Some request
+pub swap_early_none : (v : Run) (client : ℕ) {request : Request} → IsLegal v (step.Swap client) → Some request
     ≡ request_taken v.script (machine v) client → early_in v.script.topology (world v) request ≡ None
 unfolding verdict
-swap_early_none v client request is taken = (or_else-none (early_in v.script.topology (world v) request)
+swap_early_none v client {request} is taken = (or_else-none (early_in v.script.topology (world v) request)
     (late_in v.script.topology (world v) request)
-    (swap_parts v client request is (taken_parts v.script (machine v) client request taken)).none).first_none
+    (swap_parts v is (taken_parts v.script (machine v) client taken)).accepted).first_none
 
-going_now : (v : Run) (client : ℕ) → IsLegal v (step.Swap client) → (machine v).stalled ≡ false
-unfolding legal
-going_now v client is = not-true (machine v).stalled (and_parts (not (machine v).stalled) _ is).0
-
-pub commits_now : (v : Run) (client : ℕ) (request : Request) (checked : Checked) (resolved : Resolved) → IsWellFormed v.script
+pub commits_now : (v : Run) (client : ℕ) {request : Request} {checked : Checked} {resolved : Resolved} → IsWellFormed v.script
     → IsLegal v (step.Swap client) → Some request ≡ request_taken v.script (machine v) client
     → IsChecked v.script.topology (world v) request checked → HasStates checked
     → IsResolved v.script.topology (look_up (world v)) request resolved → MayCommit v client checked resolved
-commits_now v client request checked resolved formed is taken as_checked states asks =
-    let takes = taken_parts v.script (machine v) client request taken in
-    let swap = swap_parts v client request is takes in
+commits_now v client {request} formed is taken as_checked states asks =
+    let takes = taken_parts v.script (machine v) client taken in
+    let swap = swap_parts v is takes in
     record {
       ready = record {
         request = request;
-        number = is_client v.script client formed
+        number = is_client client formed
             (client_there v.script (machine v) client (command.Atomic request) (request-is (command_at v.script (machine v) client)
             request takes.at));
         taking = takes.taking;
         at = takes.at;
-        going = going_now v client is;
-        none = swap.none;
+        going = legal-going v.script (machine v) (step.Swap client) is;
+        none = swap.accepted;
         held = swap.held;
         checked_as = as_checked;
         flags_are = asks.flags;
@@ -307,27 +284,27 @@ commits_now v client request checked resolved formed is taken as_checked states 
 
 -- What a request that is accepted asks for
 
-tells_found : (v : Run) (request : Request) (found : List (ℕ × Look)) → found ≡ lookups (world v) request
+tells_found : (v : Run) (request : Request) {found : List (ℕ × Look)} → found ≡ lookups (world v) request
     → TellsLabels (look_in found) (look_up (world v)) request.assigns
-tells_found v request found is = subst (λ (l : List (ℕ × Look)). TellsLabels (look_in l) (look_up (world v)) request.assigns) (sym is)
+tells_found v request is = subst (λ (l : List (ℕ × Look)). TellsLabels (look_in l) (look_up (world v)) request.assigns) (sym is)
     (world_tells (world v) request)
 
-pub resolved_now : (s : Script) (v : Run) (request : Request) (found : List (ℕ × Look)) (resolved : Resolved) → s ≡ v.script
+pub resolved_now : {s : Script} (v : Run) (request : Request) {found : List (ℕ × Look)} (resolved : Resolved) → s ≡ v.script
     → found ≡ lookups (world v) request
     → ((f : ℕ → Look) → TellsLabels (look_in found) f request.assigns → IsResolved s.topology f request resolved)
     → IsResolved v.script.topology (look_up (world v)) request resolved
-resolved_now s v request found resolved same is by =
+resolved_now v request {found} resolved same is by =
     subst (λ (u : Script). IsResolved u.topology (look_up (world v)) request resolved) same
-    (by (look_up (world v)) (tells_found v request found is))
+    (by (look_up (world v)) (tells_found v request is))
 
-pub resolved_never : (s : Script) (v : Run) (request : Request) (found : List (ℕ × Look)) (why : Refusal) (error : RequestError)
+pub resolved_never : {s : Script} (v : Run) (request : Request) {found : List (ℕ × Look)} (why : Refusal) {error : RequestError}
     → s ≡ v.script
     → found ≡ lookups (world v) request → early_in v.script.topology (world v) request ≡ None → error ≡ Of why
     → ((f : ℕ → Look) → TellsLabels (look_in found) f request.assigns → ComesFrom (early_refusal s.topology f request) error) → ⊥
-resolved_never s v request found why error same is none of by =
+resolved_never {s} v request {found} why same is none of by =
     let here : ComesFrom (early_refusal s.topology (look_up (world v)) request) (Of why) =
     subst (λ (e : RequestError). ComesFrom (early_refusal s.topology (look_up (world v)) request) e) of
-    (by (look_up (world v)) (tells_found v request found is)) in
+    (by (look_up (world v)) (tells_found v request is)) in
     let due : early_in v.script.topology (world v) request ≡ Some why.0 =
     subst (λ (u : Script). early_refusal u.topology (look_up (world v)) request ≡ Some why.0) same here in
     false≢true (ap (λ (n : Option ℕ). is_some n) (sym none ∙ due))

@@ -43,8 +43,8 @@ record IsLeft (r : Run) (k : ℕ) (x : Tail) : Type 0 where
   is : IsTailOf r.script.topology (machine r).device.commits (machine r).device.marks (machine r).records.latches k x
 
 module _ (r v : Run) (st : Stores) (k : ℕ) (stands : Stands r st) (same : r ≡ v) where
-  is_left : (x : Tail) → Some x ≡ value_with_id st.tracker.tails.slots k → IsLeft r k x
-  is_left x found =
+  is_left : {x : Tail} → Some x ≡ value_with_id st.tracker.tails.slots k → IsLeft r k x
+  is_left {x} found =
       elim (cases_lt k (length (machine r).device.commits)) [
         | inl within ↦
             (let kept = subst (λ (o : Option Tail). IsKept r.script.topology (machine r).device.commits (machine r).device.marks
@@ -76,7 +76,7 @@ module _ (r v : Run) (st : Stores) (k : ℕ) (stands : Stands r st) (same : r �
       → writes_next r.script.topology x kind index ≡ may v.script (machine v) (step.Write k kind index)
   unfolding may
   write_told x kind index found =
-      let l = is_left x found in
+      let l = is_left found in
       let d = (machine r).device in
       ap (λ b. b && (exists r.script.topology kind index && has_value (object_id kind index) (next_write_of x))) l.is.progress.claimed
       ∙ ap (λ o. is_claimed d k && (exists r.script.topology kind index && has_value (object_id kind index) o))
@@ -87,13 +87,13 @@ module _ (r v : Run) (st : Stores) (k : ℕ) (stands : Stands r st) (same : r �
       → false ≡ may v.script (machine v) (step.Write k kind index)
   unfolding may legal
   write_absent kind index gone = absent (step.Write k kind index) refl gone refl
-      (λ clean. no_write r.script (machine r) (facts r st stands).holds k clean kind index)
+      (λ clean. no_write r.script (machine r) (facts stands).holds k clean kind index)
 
   pub flush_told : (x : Tail) (kind : Kind) (index : ℕ) → Some x ≡ value_with_id st.tracker.tails.slots k
       → flushes_next r.script.topology x kind index ≡ may v.script (machine v) (step.Flush k kind index)
   unfolding may
   flush_told x kind index found =
-      let l = is_left x found in
+      let l = is_left found in
       let d = (machine r).device in
       ap (λ b. b && (exists r.script.topology kind index
       && has_value (object_id kind index) (option_map (object_id Crtc) (next_flush_of x))))
@@ -106,12 +106,12 @@ module _ (r v : Run) (st : Stores) (k : ℕ) (stands : Stands r st) (same : r �
       → false ≡ may v.script (machine v) (step.Flush k kind index)
   unfolding may legal
   flush_absent kind index gone = absent (step.Flush k kind index) refl gone refl
-      (λ clean. no_flush r.script (machine r) (facts r st stands).holds k clean kind index)
+      (λ clean. no_flush r.script (machine r) (facts stands).holds k clean kind index)
 
   pub done_told : (x : Tail) → Some x ≡ value_with_id st.tracker.tails.slots k → ends_next x ≡ may v.script (machine v) (step.HwDone k)
   unfolding may
   done_told x found =
-      let l = is_left x found in
+      let l = is_left found in
       let d = (machine r).device in
       ap (λ b. b && (is_none (next_write_of x) && (is_none (next_flush_of x) && not x.progress.done))) l.is.progress.claimed
       ∙ ap (λ b. is_claimed d k && (b && (is_none (next_flush_of x) && not x.progress.done)))
@@ -124,7 +124,7 @@ module _ (r v : Run) (st : Stores) (k : ℕ) (stands : Stands r st) (same : r �
 
   pub done_absent : None ≡ value_with_id st.tracker.tails.slots k → false ≡ may v.script (machine v) (step.HwDone k)
   unfolding may legal
-  done_absent gone = absent (step.HwDone k) refl gone refl (λ clean. no_done r.script (machine r) (facts r st stands).holds k clean)
+  done_absent gone = absent (step.HwDone k) refl gone refl (λ clean. no_done r.script (machine r) (facts stands).holds k clean)
 
   over_unclean : (a b c : Bool) → c ≡ false → (a && b) ≡ (a && (b && not c))
   over_unclean true true true off = absurd (false≢true (sym off))
@@ -136,7 +136,7 @@ module _ (r v : Run) (st : Stores) (k : ℕ) (stands : Stands r st) (same : r �
       → is_over_tail x ≡ may v.script (machine v) (step.Cleanup k)
   unfolding may
   cleanup_told x found =
-      let l = is_left x found in
+      let l = is_left found in
       let d = (machine r).device in
       ap (λ b. b && is_none (next_latch_of x)) l.is.progress.done
       ∙ ap (λ b. is_hw_done d k && b) (all_latched_is r.script.topology d (machine r).records.latches k x stands.formed.device l.is)
@@ -145,7 +145,7 @@ module _ (r v : Run) (st : Stores) (k : ℕ) (stands : Stands r st) (same : r �
 
   pub cleanup_absent : None ≡ value_with_id st.tracker.tails.slots k → false ≡ may v.script (machine v) (step.Cleanup k)
   unfolding may legal
-  cleanup_absent gone = absent (step.Cleanup k) refl gone refl (λ clean. no_cleanup r.script (machine r) (facts r st stands).holds k clean)
+  cleanup_absent gone = absent (step.Cleanup k) refl gone refl (λ clean. no_cleanup r.script (machine r) (facts stands).holds k clean)
 
   -- Claims
 
@@ -153,7 +153,7 @@ module _ (r v : Run) (st : Stores) (k : ℕ) (stands : Stands r st) (same : r �
   claim_within within =
       ready_machine r.script.topology (machine r) st.tracker stands.stores.tracker
       (device_within r.script.topology stands.formed.device) st.fences k
-      (λ id is. stands.stores.fences.same id (waited_made r st k id stands within is))
+      (λ id is. stands.stores.fences.same id (waited_made k id stands within is))
 
   claim_above : length (machine r).device.commits ≤ k → ready_of st.tracker st.fences k ≡ may_claim r.script.topology (machine r) k
   unfolding may_claim

@@ -1,6 +1,6 @@
 -- The next step of a tail in the order of one thread.
 use Rattle.std.proofs.Common.{◌≡◌, ℕ, zero, suc, ◌+◌, ◌<◌, ◌≤◌, Bool, true, false, [], ◌∷◌, ◌++◌, map, cond, Option, Some, None, inl, inr}
-use Rattle.std.proofs.Common.{refl, sym, ap, ◌∙◌, subst, arith}
+use Rattle.std.proofs.Common.{refl, sym, ap, ◌∙◌, arith}
 use Rattle.std.specs.Prelude.{◌&&◌, filter, find, is_some, not}
 use Rattle.std.specs.List.{range_with_len}
 use Rattle.std.specs.Option.{option_map}
@@ -30,16 +30,15 @@ use Rattle.kms_core.proofs.next.Movers.{able, goes_able}
 -- Where the history was ended
 
 -- no step that moves may be done
-pub ended_unable : (r : Run) (st : Stores) → Stands r st → (machine r).stalled ≡ true → can_move r.script (machine r) ≡ false
+pub ended_unable : {r : Run} {st : Stores} → Stands r st → (machine r).stalled ≡ true → can_move r.script (machine r) ≡ false
 unfolding is_dead
-ended_unable r st stands ended =
+ended_unable {r} stands ended =
     over-unable r.script (machine r) (history_along r.script r.steps (plain-from r.script stands.formed) stands.history)
     (inr (or_left (machine r).stalled _ ended))
 
-pub settle_ended : (r v : Run) (st : Stores) → Stands r st → r ≡ v → st.stalled ≡ true → None ≡ tail_step v.script (machine v)
-settle_ended r v st stands same ended =
-    sym (unable-quiet r.script (machine r) (ended_unable r st stands (stands.stores.ended ∙ ended))).tails ∙ ap
-    (λ (w : Run). tail_step w.script (machine w)) same
+pub settle_ended : {r : Run} {st : Stores} → Stands r st → st.stalled ≡ true → None ≡ tail_step r.script (machine r)
+settle_ended {r} {st} stands ended =
+    sym (unable-quiet r.script (machine r) (ended_unable stands (stands.stores.ended ∙ ended))).tails
 
 -- Tails
 
@@ -47,12 +46,11 @@ settle_ended r v st stands same ended =
 abbrev pub first_of : Run → ℕ → Option Step
 first_of r k = find (able r) (steps_of_commit r.script.topology k)
 
-pub cleaned_none : (r v : Run) (st : Stores) → Stands r st → r ≡ v → (k : ℕ) → has_number (machine r).device.marks.cleaned k ≡ true
-    → first_of v k ≡ None
-cleaned_none r v st stands same k clean =
-    subst (λ (w : Run). first_of w k ≡ None) same
+pub cleaned_none : {r : Run} {st : Stores} → Stands r st → (k : ℕ) → has_number (machine r).device.marks.cleaned k ≡ true
+    → first_of r k ≡ None
+cleaned_none {r} stands k clean =
     (find-none (able r) (steps_of_commit r.script.topology k)
-    (λ step is. no_step r.script (machine r) (facts r st stands).holds k clean step is))
+    (λ step is. no_step r.script (machine r) (facts stands).holds k clean step is))
 
 -- a test's first steps of a commit, kind by kind
 abbrev by_kinds : (Step → Bool) → Topology → ℕ → Option Step
@@ -147,11 +145,11 @@ legal_blankings v going =
     ∙ ap (λ (z : Bool). option_map (step.Vblank Crtc) (find (λ i. not z && able v (step.Vblank Crtc i)) goes)) (sym going)
     ∙ sym (found_mapped (legal v.script (machine v)) (step.Vblank Crtc) goes)
 
-pub settle_told : (r v : Run) (st : Stores) (tail blanking : Option Step) → Stands r st → r ≡ v → st.stalled ≡ false → tail
-    ≡ first_some (first_of v) (commit_numbers (machine v))
-    → blanking ≡ find (able v) (steps_with_go v.script.topology (machine v)) → or_else tail blanking ≡ tail_step v.script (machine v)
+pub settle_told : {r : Run} {st : Stores} (tail blanking : Option Step) → Stands r st → st.stalled ≡ false → tail
+    ≡ first_some (first_of r) (commit_numbers (machine r))
+    → blanking ≡ find (able r) (steps_with_go r.script.topology (machine r)) → or_else tail blanking ≡ tail_step r.script (machine r)
 unfolding tail_step
-settle_told r v st tail blanking stands same going tail_is blanking_is =
-    let rests : (machine v).stalled ≡ false = ap (λ (w : Run). (machine w).stalled) (sym same) ∙ stands.stores.ended ∙ going in
-    (λ i. or_else (tail_is i) (blanking_is i)) ∙ (λ i. or_else (first_some (λ k. legal_steps v rests k i) (commit_numbers (machine v)))
-    (legal_blankings v rests i))
+settle_told {r} tail blanking stands going tail_is blanking_is =
+    let rests : (machine r).stalled ≡ false = stands.stores.ended ∙ going in
+    (λ i. or_else (tail_is i) (blanking_is i)) ∙ (λ i. or_else (first_some (λ k. legal_steps r rests k i) (commit_numbers (machine r)))
+    (legal_blankings r rests i))

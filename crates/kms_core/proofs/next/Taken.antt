@@ -32,9 +32,9 @@ pub record Takes (s : Script) (m : Machine) (client : ℕ) (request : Request) :
   pub taking : is_taking (doing_at m client) ≡ true
   pub at : request_at s m client ≡ Some request
 
-pub taken_parts : (s : Script) (m : Machine) (client : ℕ) (request : Request) → Some request ≡ request_taken s m client
+pub taken_parts : (s : Script) (m : Machine) (client : ℕ) {request : Request} → Some request ≡ request_taken s m client
     → Takes s m client request
-taken_parts s m client request is = by (is_taking (doing_at m client)) refl is where
+taken_parts s m client {request} is = by (is_taking (doing_at m client)) refl is where
   by : (b : Bool) → is_taking (doing_at m client) ≡ b → Some request ≡ only_if b (request_at s m client) → Takes s m client request
   by true taking is = record { taking = taking; at = sym is }
   by false taking is = absurd cc
@@ -46,9 +46,9 @@ outside_request s m client away = by (is_taking (doing_at m client)) (command_at
   by true None at = refl
   by true (Some c) at = absurd (away (client_there s m client c at))
 
-pub taking-is : (s : Script) (m : Machine) (client : ℕ) (test : Request → Bool) (request : Request) → Takes s m client request
+pub taking-is : {s : Script} {m : Machine} {client : ℕ} (test : Request → Bool) {request : Request} → Takes s m client request
     → taking_at s m client test ≡ test request
-taking-is s m client test request takes = rw (takes.taking, takes.at) refl
+taking-is test takes = rw (takes.taking, takes.at) refl
 
 pub taking-none : (s : Script) (m : Machine) (client : ℕ) (test : Request → Bool) → None ≡ request_taken s m client
     → taking_at s m client test ≡ false
@@ -86,7 +86,7 @@ pub lock_is : (s : Script) (m : Machine) (client : ℕ) (k : Kind) (index : ℕ)
 unfolding may may_lock
 lock_is s m client k index request reached free takes on reached_is free_is =
     rw (on, reached_is, free_is) (ap (λ b. b && is_free_or_older m (ticket_of (doing_at m client)) (holder_at m (object_id k index)))
-    (sym (taking-is s m client (λ r. reaches s.topology m.device.world r (object_id k index)) request takes)))
+    (sym (taking-is (λ r. reaches s.topology m.device.world r (object_id k index)) takes)))
 
 -- an object that has a lock is on the device, and is one of the largest device
 pub lockable_exists : (t : Topology) (k : Kind) (index : ℕ) → is_lockable t k index ≡ true → exists t k index ≡ true
@@ -95,23 +95,23 @@ lockable_exists t Plane index on = on
 lockable_exists t Conn index on = on
 lockable_exists t Enc index on = absurd cc
 
-pub lockable_of : (t : Topology) (k : Kind) (index : ℕ) (id : ObjId) → HasFewObjects t → id.0 ≡ object_id k index → is_lockable t k index
+pub lockable_of : {t : Topology} (k : Kind) (index : ℕ) (id : ObjId) → HasFewObjects t → id.0 ≡ object_id k index → is_lockable t k index
     ≡ true → IsLockable id
-lockable_of t Crtc index id few is on = let lt = ltb-true index t.crtcs on in inl (omega (arith, is), omega (arith, is, lt, few.crtcs))
-lockable_of t Plane index id few is on = let lt = ltb-true index (length t.planes) on
+lockable_of {t} Crtc index id few is on = let lt = ltb-true index t.crtcs on in inl (omega (arith, is), omega (arith, is, lt, few.crtcs))
+lockable_of {t} Plane index id few is on = let lt = ltb-true index (length t.planes) on
     in inr (inl (omega (arith, is), omega (arith, is, lt, few.planes)))
-lockable_of t Conn index id few is on = let lt = ltb-true index (length t.conns) on
+lockable_of {t} Conn index id few is on = let lt = ltb-true index (length t.conns) on
     in inr (inr (omega (arith, is), omega (arith, is, lt, few.conns)))
-lockable_of t Enc index id few is on = absurd cc
+lockable_of Enc index id few is on = absurd cc
 
 -- As calls find it
 
-pub taker_number : (r v : Run) (st : Stores) (client : ℕ) (request : Request) → Stands r st → r ≡ v → Some request
+pub taker_number : {r v : Run} {st : Stores} (client : ℕ) {request : Request} → Stands r st → r ≡ v → Some request
     ≡ request_taken v.script (machine v) client → IsClient client
-taker_number r v st client request stands same is =
-    let takes = taken_parts r.script (machine r) client request
+taker_number {r} client {request} stands same is =
+    let takes = taken_parts r.script (machine r) client
     (is ∙ ap (λ (w : Run). request_taken w.script (machine w) client) (sym same)) in
-    is_client r.script client stands.formed (client_there r.script (machine r) client (command.Atomic request)
+    is_client client stands.formed (client_there r.script (machine r) client (command.Atomic request)
     (request-is (command_at r.script (machine r) client) request takes.at))
 
 pub lock_found : (r v : Run) (client : ℕ) (k : Kind) (index : ℕ) (request : Request) (reached free : Bool) (id : ObjId) → r ≡ v
@@ -121,18 +121,18 @@ pub lock_found : (r v : Run) (client : ℕ) (k : Kind) (index : ℕ) (request : 
     → free ≡ is_free_or_older (machine r) (ticket_of (doing_at (machine r) client)) (holder_at (machine r) id.0) → (reached && free)
     ≡ may v.script (machine v) (step.Lock client k index)
 lock_found r v client k index request reached free id same is on reached_is id_is free_is =
-    let takes = taken_parts r.script (machine r) client request
+    let takes = taken_parts r.script (machine r) client
     (is ∙ ap (λ (w : Run). request_taken w.script (machine w) client) (sym same)) in
     lock_is r.script (machine r) client k index request reached free takes on reached_is
     (free_is ∙ ap (λ o. is_free_or_older (machine r) (ticket_of (doing_at (machine r) client)) (holder_at (machine r) o)) id_is)
     ∙ ap (λ (w : Run). may w.script (machine w) (step.Lock client k index)) same
 
 -- it is not reached
-pub lock_apart : (r v : Run) (client : ℕ) (k : Kind) (index : ℕ) (request : Request) (reached : Bool) → r ≡ v → Some request
+pub lock_apart : {r v : Run} (client : ℕ) (k : Kind) (index : ℕ) {request : Request} {reached : Bool} → r ≡ v → Some request
     ≡ request_taken v.script (machine v) client → is_lockable r.script.topology k index ≡ true
     → reached ≡ reaches r.script.topology (machine r).device.world request (object_id k index) → reached ≡ false → reached
     ≡ may v.script (machine v) (step.Lock client k index)
-lock_apart r v client k index request reached same is on reached_is out =
+lock_apart {r} {v} client k index {request} {reached} same is on reached_is out =
     let free : Bool = is_free_or_older (machine r) (ticket_of (doing_at (machine r) client)) (holder_at (machine r) (object_id k index)) in
     out ∙ ap (λ b. b && free) (sym out) ∙ lock_found r v client k index request reached free (record { 0 = object_id k index }) same is on
     reached_is refl refl

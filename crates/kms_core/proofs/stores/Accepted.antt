@@ -48,17 +48,17 @@ each_true : (f : ℕ → Bool) → ((p : ℕ) → p < 28 → f p ≡ true) → a
 unfolding all_below
 each_true f each = all_same f (λ p. true) 28 each
 
-if_on : (on in_mask touched b : Bool) → on ≡ true → (on && touched) ≡ in_mask → (not in_mask || b) ≡ (not touched || b)
-if_on on in_mask touched b is e = rw (sym e, is) refl
+if_on : {on : Bool} (in_mask touched b : Bool) → on ≡ true → (on && touched) ≡ in_mask → (not in_mask || b) ≡ (not touched || b)
+if_on in_mask touched b is e = rw (sym e, is) refl
 
-if_off : (on in_mask touched b : Bool) → on ≡ false → (on && touched) ≡ in_mask → (not in_mask || b) ≡ true
-if_off on in_mask touched b is e = rw (sym e, is) refl
+if_off : {on : Bool} (in_mask touched b : Bool) → on ≡ false → (on && touched) ≡ in_mask → (not in_mask || b) ≡ true
+if_off in_mask touched b is e = rw (sym e, is) refl
 
 -- a context holds the objects of the set that a request touches where it holds what the request touches
-pub mask_holds : (t : Topology) (m : Machine) (client : ℕ) (request : Request) (mask : Mask) → IsDevice t → mask
+pub mask_holds : {t : Topology} (m : Machine) (client : ℕ) (request : Request) {mask : Mask} → IsDevice t → mask
     ≡ touched_by t m.device.world request → all_below (held_at m client mask) 28 ≡ holds_touched t m client request
 unfolding holds_touched
-mask_holds t m client request mask device is =
+mask_holds {t} m client request {mask} device is =
     all_lockable t (held_at m client mask) (λ object. not (touches t m.device.world request object) || holds m client object)
     (device_within t device) there elsewhere
   where
@@ -67,17 +67,17 @@ mask_holds t m client request mask device is =
 
     there : (p : ℕ) → p < 28 → is_there t p ≡ true → held_at m client mask p
         ≡ (not (touches t m.device.world request (object_at_place p)) || holds m client (object_at_place p))
-    there p below on = if_on (is_of_device t (object_at_place p)) (mask_has mask p) _ (holds m client (object_at_place p))
+    there p below on = if_on (mask_has mask p) _ (holds m client (object_at_place p))
         (on_place t p below ∙ on) (has p below)
 
     elsewhere : (p : ℕ) → p < 28 → is_there t p ≡ false → held_at m client mask p ≡ true
-    elsewhere p below off = if_off (is_of_device t (object_at_place p)) (mask_has mask p) _ (holds m client (object_at_place p))
+    elsewhere p below off = if_off (mask_has mask p) _ (holds m client (object_at_place p))
         (on_place t p below ∙ off) (has p below)
 
 pub mask_held : (t : Topology) (m : Machine) (client : ℕ) (request : Request) (mask : Mask) → IsDevice t → mask
     ≡ touched_by t m.device.world request → HoldsAll m client mask → holds_touched t m client request ≡ true
 mask_held t m client request mask device is held =
-    sym (mask_holds t m client request mask device is) ∙ each_true (held_at m client mask)
+    sym (mask_holds m client request device is) ∙ each_true (held_at m client mask)
     (λ p below. implied_from (mask_has mask p) (holds m client (object_at_place p)) (held p below))
 
 -- Acceptance
@@ -89,28 +89,27 @@ pub record AcceptedNow (r : Run) (client : ℕ) (request : Request) (resolved : 
   pub held : holds_touched r.script.topology (machine r) client request ≡ true
   pub checked_as : IsChecked r.script.topology (world r) request checked
 
-pub accepted_now : (r : Run) (t : ℕ) (used : List (ℕ × Look)) (request : Request) (resolved : Resolved) (checked : Checked)
+pub accepted_now : {r : Run} {t : ℕ} {used : List (ℕ × Look)} {request : Request} {resolved : Resolved} {checked : Checked}
     → IsWellFormed r.script → is_history r.script r.steps ≡ true → IsFirstStale (look_up (world r)) used None
     → IsDeciding r t used request → IsAccepted r t used request resolved checked
     → AcceptedNow r (taker (machine r) t) request resolved checked
 unfolding verdict
-accepted_now r t used request resolved checked formed history fresh deciding accepted =
+accepted_now {r} {t} {used} {request} {resolved} {checked} formed history fresh deciding accepted =
     let told : TellsLabels (look_in used) (look_up (world r)) request.assigns = tells_now (world r) request used fresh deciding.labels in
-    let of : IsOfRequest r.script.topology (world r) request resolved accepted.duplicates = of_request r used request resolved
-    accepted.duplicates formed history told accepted.given in
+    let of : IsOfRequest r.script.topology (world r) request resolved accepted.duplicates = of_request formed history told accepted.given in
     let is = accepted.gives (world r) of in
     record {
-      decider = decider r t used request deciding;
+      decider = decider deciding;
       none = or_else-nones (early_in r.script.topology (world r) request) (late_in r.script.topology (world r) request) of.asks.accepted
           (accepted.passes (world r) of);
       held = mask_held r.script.topology (machine r) (taker (machine r) t) request checked.touched formed.device is.touched accepted.holds;
       checked_as = is;
     }
 
-test_by : (r : Run) (client : ℕ) (request : Request) (resolved : Resolved) (checked : Checked)
+test_by : {r : Run} {client : ℕ} {request : Request} {resolved : Resolved} {checked : Checked}
     → AcceptedNow r client request resolved checked → is_test request.flags ≡ true → Decides r client (step.Test client) reply.Tested
 unfolding legal may may_test next
-test_by r client request resolved checked A test = record {
+test_by {r} {client} {request} A test = record {
   number = A.decider.takes.number;
   taking = A.decider.takes.taking;
   legal = and_from _ _ (ap not A.decider.going)
@@ -119,19 +118,17 @@ test_by r client request resolved checked A test = record {
   does = refl;
 }
 
-pub tests : (r : Run) (st : Stores) (t : ℕ) (used : List (ℕ × Look)) (checked : Checked) → Stands r st
+pub tests : {r : Run} {st : Stores} {t : ℕ} {used : List (ℕ × Look)} {checked : Checked} → Stands r st
     → IsFirstStale (look_up (world r)) used None → MayTest r t used checked
     → Decides r (taker (machine r) t) (step.Test (taker (machine r) t)) reply.Tested
-tests r st t used checked stands fresh asked =
-    test_by r (taker (machine r) t) asked.request asked.resolved checked
-    (accepted_now r t used asked.request asked.resolved checked stands.formed stands.history fresh asked.deciding asked.accepted) asked.test
+tests {r} {t} {used} {checked} stands fresh asked =
+    test_by
+    (accepted_now stands.formed stands.history fresh asked.deciding asked.accepted) asked.test
 
 -- as the call finds it
-pub tests_as : (r v : Run) (st : Stores) (t : ℕ) (used : List (ℕ × Look)) (checked : Checked) (client : ℕ) → Stands r st → r ≡ v
-    → IsFirstStale (look_up (world v)) used None → MayTest v t used checked
-    → client ≡ taker_in (doing_in st.clients.places) t → Decides v client (step.Test client) reply.Tested
-tests_as r v st t used checked client stands same none asked is =
-    let now = subst (λ (x : Run). MayTest x t used checked) (sym same) asked in
-    let done = tests r st t used checked stands (subst (λ (x : Run). IsFirstStale (look_up (world x)) used None) (sym same) none) now in
-    let own = subst (λ n. Decides r n (step.Test n) reply.Tested) (sym (taker_as r r st t client stands refl is)) done in
-    subst (λ (x : Run). Decides x client (step.Test client) reply.Tested) same own
+pub tests_as : {r : Run} {st : Stores} {t : ℕ} {used : List (ℕ × Look)} {checked : Checked} {client : ℕ} → Stands r st
+    → IsFirstStale (look_up (world r)) used None → MayTest r t used checked
+    → client ≡ taker_in (doing_in st.clients.places) t → Decides r client (step.Test client) reply.Tested
+tests_as {r} {st} {t} {used} {checked} {client} stands none asked is =
+    let done = tests stands none asked in
+    subst (λ n. Decides r n (step.Test n) reply.Tested) (sym (taker_as t stands is)) done

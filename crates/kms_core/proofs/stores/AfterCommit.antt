@@ -23,11 +23,11 @@ get_of (x ∷ xs) zero b e = ap Some e
 get_of (x ∷ xs) (suc i) b e = get_of xs i b e
 
 -- one object more is swapped in
-pub swapped_here : {S : Type 0} (states old checked : List (Option (Both S))) (i : ℕ) (a b result : Option (Both S)) → i < length states → i
+pub swapped_here : {S : Type 0} (states old checked : List (Option (Both S))) (i : ℕ) {a b result : Option (Both S)} → i < length states → i
     < length checked → result ≡ swapped_in a b
     → a ≡ slice_index_or states i a → b ≡ slice_index_or checked i b → slice_index_or states i None ≡ slice_index_or old i None → result
     ≡ swapped_in (slice_index_or old i None) (slice_index_or checked i None)
-swapped_here states old checked i a b result within there is a_is b_is kept =
+swapped_here states old checked i {a} {b} within there is a_is b_is kept =
     is ∙ ap (λ x. swapped_in x b) (a_is ∙ get_or_default states i a None within ∙ kept) ∙ ap (swapped_in (slice_index_or old i None))
     (b_is ∙ get_or_default checked i b None there)
 
@@ -56,9 +56,9 @@ there_is [] i = refl
 there_is (x ∷ xs) zero = refl
 there_is (x ∷ xs) (suc i) = there_is xs i
 
-pub swapped_whole : {S : Type 0} (count : ℕ) (present checked after : List (Option (Both S))) → AreSwappedIn S present checked after
+pub swapped_whole : {S : Type 0} {count : ℕ} {present checked after : List (Option (Both S))} → AreSwappedIn S present checked after
     → AreWhole count present → AreWhole count after
-swapped_whole count present checked after is whole = record {
+swapped_whole {present} {checked} {after} is whole = record {
   there = λ index low. same index ∙ whole.there index low;
   only = λ index some. whole.only index (sym (same index) ∙ some);
 } where

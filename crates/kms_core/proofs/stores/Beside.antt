@@ -21,9 +21,9 @@ pub record SameBeside (old new : Machine) : Type 0 where
   pub events : new.events ≡ old.events
   pub stalled : new.stalled ≡ old.stalled
 
-pub stands_beside : (s : Script) (old new : Machine) (st : Stores) (clients : Standing) → SameBeside old new
+pub stands_beside : {s : Script} {old : Machine} (new : Machine) {st : Stores} (clients : Standing) → SameBeside old new
     → AreClientsOf new.contexts clients → StandsAt s old st → StandsAt s new (record st { clients = clients })
-stands_beside s old new st clients same now stands = record {
+stands_beside new clients same now stands = record {
   clients = now;
   recorded = rw same.records stands.recorded;
   world = rw same.device stands.world;
@@ -50,16 +50,16 @@ abbrev pub moved : Machine → ℕ → Records → World → List ℕ → Events
 moved m client records world signalled events = goes_on
     (record m { device = record m.device { world = world; signalled = signalled }; records = records; events = events }) client
 
-pub stands_moved : (s : Script) (m : Machine) (client : ℕ) (records : Records) (world : World) (signalled : List ℕ) (events : Events)
-    (st : Stores) (clients : Standing) (journal : Logged (ℕ × ℕ)) (replies : Logged Answered) (made : Made)
-    (fences : FenceSet) (queues : List Queue) → records.latches ≡ m.records.latches → AreClientsOf (goes_on m client).contexts clients
+pub stands_moved : {s : Script} {m : Machine} (client : ℕ) (records : Records) {world : World} {signalled : List ℕ} {events : Events}
+    {st : Stores} {clients : Standing} (journal : Logged (ℕ × ℕ)) (replies : Logged Answered) (made : Made)
+    {fences : FenceSet} {queues : List Queue} → records.latches ≡ m.records.latches → AreClientsOf (goes_on m client).contexts clients
     → AreRecords records journal.items replies.items st.latches.items → IsWorldOf s.topology world made st.present
     → AreFencesOf fences signalled → AreMadeFences world signalled fences
     → ((id : ℕ) → is_made st.fences id ≡ true → is_made fences id ≡ true) → AreQueues (length s.clients) events queues → StandsAt s m st
     → StandsAt s (moved m client records world signalled events)
     (record st { clients = clients; journal = journal; replies = replies; made = made; fences = fences; queues = queues })
-stands_moved s m client records world signalled events st clients journal replies made fences queues latches clients_stand recorded is_world
-    fences_stand fenced kept queues_stand stands = record {
+stands_moved client records {world} {clients} journal replies made {fences} {queues} latches clients_stand recorded is_world fences_stand
+    fenced kept queues_stand stands = record {
       clients = clients_stand;
       recorded = recorded;
       world = is_world;

@@ -14,11 +14,11 @@ use Rattle.kms_model.specs.Machine.Commits.{commit_at, commit_names, commit_touc
 use Rattle.kms_model.specs.Machine.Histories.{at, is_history}
 use Rattle.kms_model.specs.Machine.Registers.{CrtcWords, crtc_register}
 use Rattle.kms_model.specs.Machine.State.{Commit, DeviceState, Machine, first_machine}
+use Rattle.kms_model.proofs.Guards.{IsWrite}
 use Rattle.kms_model.proofs.Items.{IsIn}
 use Rattle.kms_model.proofs.SoundKept.{sound-apply}
 use Rattle.kms_model.proofs.CommitFacts.{commit_old, commit_new}
 use Rattle.kms_laws.proofs.Basics.{both_bools}
-use Rattle.kms_laws.proofs.EachStep.{IsWrite}
 use Rattle.kms_laws.proofs.Invariants.{Tail, crtc_after}
 use Rattle.kms_laws.proofs.Latching.{crtc_same}
 use Rattle.kms_laws.proofs.Modes.{plain-from}
@@ -95,9 +95,9 @@ record AlsoSound (s : Script) (m : Machine) : Type 0 where
   holds : Holds s m
   sound : AreSoundCommits s.topology (length s.clients) m.device.commits
 
-pub commits_sound : (s : Script) (h : List Step) → IsPlainScript s → is_history s h ≡ true
+pub commits_sound : {s : Script} (h : List Step) → IsPlainScript s → is_history s h ≡ true
     → AreSoundCommits s.topology (length s.clients) (at s h).device.commits
-commits_sound s h plain is =
+commits_sound {s} h plain is =
     (along s (AlsoSound s) (λ m step both legal. record {
       holds = step_kept s m step plain both.holds legal;
       sound = step_keeps s (Sound s)
@@ -107,8 +107,8 @@ commits_sound s h plain is =
 
 -- What is known of the machine of a core
 
-pub facts : (r : Run) (st : Stores) → Stands r st → Facts r.script (machine r)
-facts r st stands = history_facts r.script r.steps (plain-from r.script stands.formed) stands.history
+pub facts : {r : Run} {st : Stores} → Stands r st → Facts r.script (machine r)
+facts {r} stands = history_facts r.script r.steps (plain-from r.script stands.formed) stands.history
 
 -- Before a commit writes a CRTC, the shadow words are those that it starts from
 

@@ -70,14 +70,14 @@ module _ (t : Topology) (w : World) (r : Request) (at : IsRequestAt t w r) (chec
     by_touch true touched = absurd (free touched)
     by_touch false untouched = untouched_same t w r at (object_id kind i) there untouched (w.commits + 1)
 
-  none_there : {A : Type 0} (o : Option A) → o ≡ None → is_some o ≡ true → ⊥
-  none_there o none some = false≢true (sym (ap is_some none) ∙ some)
+  none_there : {A : Type 0} {o : Option A} → o ≡ None → is_some o ≡ true → ⊥
+  none_there none some = false≢true (sym (ap is_some none) ∙ some)
 
   crtc_same : (i : ℕ) → i < t.crtcs → slice_index_or checked.states.crtcs i None ≡ None
       → crtc_state_at t w.things (after w r) (object_id Crtc i) ≡ crtc_state_at t w.things w.values (object_id Crtc i)
   crtc_same i low none =
       (same_where Crtc i (in_left (ids_of t Crtc) _ (object_id Crtc i) (ids-has t Crtc i low))
-      (λ touched. none_there (slice_index_or checked.states.crtcs i None) none
+      (λ touched. none_there none
       (has.crtcs i (omega (arith, low, few.crtcs))
       (ap (λ (mask : Mask). has_bit mask.crtcs i) is.touched ∙ has_bit-mask_below
       (λ index. touches_of_kind Crtc t w r (object_id Crtc index)) (count_of t Crtc) i
@@ -89,7 +89,7 @@ module _ (t : Topology) (w : World) (r : Request) (at : IsRequestAt t w r) (chec
   plane_same i low none =
       (same_where Plane i (in_right (ids_of t Crtc) _ (object_id Plane i)
       (in_left (ids_of t Plane) _ (object_id Plane i) (ids-has t Plane i low)))
-      (λ touched. none_there (slice_index_or checked.states.planes i None) none
+      (λ touched. none_there none
       (has.planes i (omega (arith, low, few.planes))
       (ap (λ (mask : Mask). has_bit mask.planes i) is.touched ∙ has_bit-mask_below
       (λ index. touches_of_kind Plane t w r (object_id Plane index)) (count_of t Plane) i
@@ -102,16 +102,16 @@ module _ (t : Topology) (w : World) (r : Request) (at : IsRequestAt t w r) (chec
       ap (λ n. record { crtc = n })
       ((same_where Conn i (in_right (ids_of t Crtc) _ (object_id Conn i)
       (in_right (ids_of t Plane) _ (object_id Conn i) (ids-has t Conn i low)))
-      (λ touched. none_there (slice_index_or checked.states.conns i None) none
+      (λ touched. none_there none
       (has.conns i (omega (arith, low, few.conns))
       (ap (λ (mask : Mask). has_bit mask.conns i) is.touched ∙ has_bit-mask_below
       (λ index. touches_of_kind Conn t w r (object_id Conn index)) (count_of t Conn) i
       ∙ and_from _ _ (lt-ltb i (count_of t Conn) low) (sym (touched_as Conn i (omega (arith, low, few.conns))) ∙ touched))))).connector
       (kind_of-object Conn i (omega (arith, low, few.conns))))
 
-  values_present : (present news : Duplicates) → IsPresent t w present → IsSwappedIn present checked.states news
+  values_present : {present news : Duplicates} → IsPresent t w present → IsSwappedIn present checked.states news
       → IsPresent t (record w { values = after w r; commits = w.commits + 1 }) news
-  values_present present news was swaps =
+  values_present {present} {news} was swaps =
       let crtcs = swapped_agree (λ index. crtc_state_at t w.things w.values (object_id Crtc index))
       (λ index. crtc_state_at t w.things (after w r) (object_id Crtc index)) present.crtcs checked.states.crtcs news.crtcs t.crtcs
       swaps.crtcs was.whole.crtcs was.old.crtcs was.new.crtcs is.new.crtcs crtc_same in
@@ -124,18 +124,18 @@ module _ (t : Topology) (w : World) (r : Request) (at : IsRequestAt t w r) (chec
       swaps.conns was.whole.conns was.old.conns was.new.conns is.new.conns conn_same in
       record {
         whole = record {
-          crtcs = swapped_whole t.crtcs present.crtcs checked.states.crtcs news.crtcs swaps.crtcs was.whole.crtcs;
-          planes = swapped_whole (count_of t Plane) present.planes checked.states.planes news.planes swaps.planes was.whole.planes;
-          conns = swapped_whole (count_of t Conn) present.conns checked.states.conns news.conns swaps.conns was.whole.conns;
+          crtcs = swapped_whole swaps.crtcs was.whole.crtcs;
+          planes = swapped_whole swaps.planes was.whole.planes;
+          conns = swapped_whole swaps.conns was.whole.conns;
         };
         old = record { crtcs = crtcs.0; planes = planes.0; conns = conns.0 };
         new = record { crtcs = crtcs.1; planes = planes.1; conns = conns.1 };
       }
 
-  pub committed_present : (client : ℕ) (present news : Duplicates) → IsNumbered w → verdict t w r ≡ None → AreKept w.things
+  pub committed_present : (client : ℕ) {present news : Duplicates} → IsNumbered w → verdict t w r ≡ None → AreKept w.things
       → IsPresent t w present → IsSwappedIn present checked.states news → IsPresent t (committed t w client r).world news
-  committed_present client present news numbered none kept was swaps =
+  committed_present client {present} {news} numbered none kept was swaps =
       let v : World = record w { values = after w r; commits = w.commits + 1 } in
       let follows = follows-out_fences t client r.assigns v (ids_of t Crtc)
       (sound-apply t w r (w.commits + 1) (record { sound = at.sound; numbered = numbered }) none) kept in
-      present_seen t v (committed t w client r).world news follows.like.values follows.like.alike (values_present present news was swaps)
+      present_seen t v (committed t w client r).world news follows.like.values follows.like.alike (values_present was swaps)

@@ -85,48 +85,49 @@ pushed_here old new id is below = rw (
 
 -- Fences in a world
 
-pub same_slots : (w : World) (signalled : List ℕ) (old new : FenceSet) → new.slots ≡ old.slots → AreMadeFences w signalled old
+pub same_slots : {w : World} {signalled : List ℕ} {old : FenceSet} (new : FenceSet) → new.slots ≡ old.slots → AreMadeFences w signalled old
     → AreMadeFences w signalled new
-same_slots w signalled old new same fenced = record {
+same_slots {w} {old} new same fenced = record {
   made = things_more old new (λ id made. rw same made) w.things fenced.made;
   made_before = λ id is. rw same (fenced.made_before id is);
   below = rw same fenced.below;
 }
 
-make_fenced : (w : World) (owner label : ℕ) (c : Content) (signalled : List ℕ) (fences : FenceSet) → is_fence c ≡ false
+make_fenced : {w : World} (owner label : ℕ) (c : Content) {signalled : List ℕ} {fences : FenceSet} → is_fence c ≡ false
     → AreMadeFences w signalled fences → AreMadeFences (make w owner label c).world signalled fences
-make_fenced w owner label c signalled fences off fenced = record {
+make_fenced {w} owner label c {fences} off fenced = record {
   made = things_push fences w.things (record { label = label; id = w.next_id; owner = owner; content = c; is_open = true }) fenced.made
       (λ fence. absurd (false≢true (sym off ∙ fence)));
   made_before = fenced.made_before;
   below = below_up fences.slots w.next_id (w.next_id + 1) (omega arith) fenced.below;
 }
 
-make_unless_fenced : (w : World) (owner label : ℕ) (c : Content) (o : Option ℕ) (signalled : List ℕ) (fences : FenceSet) → is_fence c
+make_unless_fenced : {w : World} (owner label : ℕ) (c : Content) (o : Option ℕ) {signalled : List ℕ} {fences : FenceSet} → is_fence c
     ≡ false → AreMadeFences w signalled fences → AreMadeFences (make_unless w owner label c o).world signalled fences
-make_unless_fenced w owner label c None signalled fences off fenced = make_fenced w owner label c signalled fences off fenced
-make_unless_fenced w owner label c (Some n) signalled fences off fenced = fenced
+make_unless_fenced owner label c None off fenced = make_fenced owner label c off fenced
+make_unless_fenced owner label c (Some n) off fenced = fenced
 
-add_fb_fenced : (w : World) (client label : ℕ) (o : Option BufferInfo) (signalled : List ℕ) (fences : FenceSet)
+add_fb_fenced : {w : World} (client label : ℕ) (o : Option BufferInfo) {signalled : List ℕ} {fences : FenceSet}
     → AreMadeFences w signalled fences → AreMadeFences (add_fb w client label o).world signalled fences
-add_fb_fenced w client label None signalled fences fenced = fenced
-add_fb_fenced w client label (Some b) signalled fences fenced = make_fenced w client label _ signalled fences refl fenced
+add_fb_fenced client label None fenced = fenced
+add_fb_fenced client label (Some b) fenced = make_fenced client label _ refl fenced
 
-close_fenced : (w : World) (u : Option Thing) (o : Option ℕ) (signalled : List ℕ) (fences : FenceSet) → AreMadeFences w signalled fences
+close_fenced : {w : World} (u : Option Thing) (o : Option ℕ) {signalled : List ℕ} {fences : FenceSet} → AreMadeFences w signalled fences
     → AreMadeFences (close_unless w u o).world signalled fences
-close_fenced w None None signalled fences fenced = fenced
-close_fenced w (Some u) None signalled fences fenced =
+close_fenced None None fenced = fenced
+close_fenced {w} (Some u) None {fences} fenced =
     record { made = things_closed fences w.things u.id fenced.made; made_before = fenced.made_before; below = fenced.below }
-close_fenced w u (Some n) signalled fences fenced = fenced
+close_fenced u (Some n) fenced = fenced
 
-signal_fenced : (w : World) (o : Option ℕ) (signalled : List ℕ) (fences : FenceSet) → AreMadeFences w signalled fences
+signal_fenced : {w : World} (o : Option ℕ) {signalled : List ℕ} {fences : FenceSet} → AreMadeFences w signalled fences
     → AreMadeFences (signal_unless w o).world signalled fences
-signal_fenced w None signalled fences fenced = fenced
-signal_fenced w (Some n) signalled fences fenced = fenced
+signal_fenced None fenced = fenced
+signal_fenced (Some n) fenced = fenced
 
-pub fence_fenced : (w : World) (owner label : ℕ) (c : Content) (signalled : List ℕ) (old new : FenceSet) → new.slots ≡ old.slots
+pub fence_fenced : {w : World} (owner label : ℕ) (c : Content) {signalled : List ℕ} {old : FenceSet} (new : FenceSet) → new.slots ≡
+    old.slots
     ++ slot w.next_id false ∷ [] → AreMadeFences w signalled old → AreMadeFences (make w owner label c).world signalled new
-fence_fenced w owner label c signalled old new is fenced =
+fence_fenced {w} owner label c {old} new is fenced =
     let more = pushed_more old new w.next_id is in
     record {
       made = things_push new w.things (record { label = label; id = w.next_id; owner = owner; content = c; is_open = true })
@@ -136,31 +137,32 @@ fence_fenced w owner label c signalled old new is fenced =
     }
 
 -- a command that is no request
-pub executed_fenced : (t : Topology) (w : World) (client : ℕ) (c : Command) (signalled : List ℕ) (old new : FenceSet) → is_atomic c ≡ false
+pub executed_fenced : (t : Topology) {w : World} (client : ℕ) (c : Command) {signalled : List ℕ} {old : FenceSet} (new : FenceSet) →
+    is_atomic c ≡ false
     → new.slots ≡ with_fence_of c w.next_id old.slots → AreMadeFences w signalled old
     → AreMadeFences (execute t w client c).world signalled new
 unfolding execute
-executed_fenced t w client (command.Buffer label width height format pattern) signalled old new other is fenced =
-    make_unless_fenced w client label (content.Buffer width height format pattern) (new_buffer_refusal w.things width height format)
-    signalled new refl (same_slots w signalled old new is fenced)
-executed_fenced t w client (command.AddFb label buffer) signalled old new other is fenced = add_fb_fenced w client label
-    (buffer_of w.things client buffer) signalled new (same_slots w signalled old new is fenced)
-executed_fenced t w client (command.Mode label m) signalled old new other is fenced = make_fenced w client label (content.Mode m) signalled
-    new refl (same_slots w signalled old new is fenced)
-executed_fenced t w client (command.Blob label bytes) signalled old new other is fenced = make_fenced w client label (content.Blob bytes)
-    signalled new refl (same_slots w signalled old new is fenced)
-executed_fenced t w client (command.Destroy label) signalled old new other is fenced =
-    close_fenced w (thing_labelled w.things label) (destroy_refusal client (thing_labelled w.things label)) signalled new
-    (same_slots w signalled old new is fenced)
-executed_fenced t w client (command.CloseFb label) signalled old new other is fenced =
-    close_fenced w (thing_labelled w.things label) (close_refusal client (thing_labelled w.things label)) signalled new
-    (same_slots w signalled old new is fenced)
-executed_fenced t w client (command.Fence label) signalled old new other is fenced = fence_fenced w client label content.Fence signalled old
+executed_fenced t {w} client (command.Buffer label width height format pattern) {signalled} new other is fenced =
+    make_unless_fenced client label (content.Buffer width height format pattern) (new_buffer_refusal w.things width height format) refl
+    (same_slots new is fenced)
+executed_fenced t {w} client (command.AddFb label buffer) {signalled} new other is fenced = add_fb_fenced client label
+    (buffer_of w.things client buffer) (same_slots new is fenced)
+executed_fenced t client (command.Mode label m) new other is fenced = make_fenced client label (content.Mode m) refl
+    (same_slots new is fenced)
+executed_fenced t client (command.Blob label bytes) new other is fenced = make_fenced client label (content.Blob bytes) refl
+    (same_slots new is fenced)
+executed_fenced t {w} client (command.Destroy label) {signalled} new other is fenced =
+    close_fenced (thing_labelled w.things label) (destroy_refusal client (thing_labelled w.things label))
+    (same_slots new is fenced)
+executed_fenced t {w} client (command.CloseFb label) {signalled} new other is fenced =
+    close_fenced (thing_labelled w.things label) (close_refusal client (thing_labelled w.things label))
+    (same_slots new is fenced)
+executed_fenced t client (command.Fence label) new other is fenced = fence_fenced client label content.Fence
     new is fenced
-executed_fenced t w client (command.Signal label) signalled old new other is fenced = signal_fenced w
-    (signal_refusal (thing_labelled w.things label)) signalled new (same_slots w signalled old new is fenced)
-executed_fenced t w client (command.Atomic r) signalled old new other is fenced = absurd (false≢true (sym other))
-executed_fenced t w client command.Wait signalled old new other is fenced = same_slots w signalled old new is fenced
+executed_fenced t {w} client (command.Signal label) {signalled} new other is fenced = signal_fenced
+    (signal_refusal (thing_labelled w.things label)) (same_slots new is fenced)
+executed_fenced t client (command.Atomic r) new other is fenced = absurd (false≢true (sym other))
+executed_fenced t client command.Wait new other is fenced = same_slots new is fenced
 
 -- fences that were made stay so
 pub executed_more : (next : ℕ) (c : Command) (old new : FenceSet) → new.slots ≡ with_fence_of c next old.slots → (id : ℕ) → is_made old id
@@ -178,31 +180,33 @@ executed_more next command.Wait old new is id made = rw is made
 
 -- Fences of the machine
 
-pub same_fences : (signalled : List ℕ) (old new : FenceSet) → new.slots ≡ old.slots → AreFencesOf old signalled → AreFencesOf new signalled
-same_fences signalled old new same stand = record { same = λ id made. rw same (stand.same id (rw same at made)) }
+pub same_fences : {signalled : List ℕ} {old : FenceSet} (new : FenceSet) → new.slots ≡ old.slots → AreFencesOf old signalled → AreFencesOf
+    new signalled
+same_fences new same stand = record { same = λ id made. rw same (stand.same id (rw same at made)) }
 
 -- the next id is not among those of the fences that are signalled
-pub fresh : (w : World) (signalled : List ℕ) (fences : FenceSet) → AreMadeFences w signalled fences → has_number signalled w.next_id ≡ false
-fresh w signalled fences fenced =
+pub fresh : {w : World} {signalled : List ℕ} {fences : FenceSet} → AreMadeFences w signalled fences → has_number signalled w.next_id ≡ false
+fresh {w} {signalled} {fences} fenced =
     elim (cases_Bool (has_number signalled w.next_id)) [
       | inl there ↦ absurd (false≢true (ap (λ (o : Option Bool). is_some o)
           (sym (value_above fences.slots w.next_id w.next_id fenced.below (omega arith))) ∙ fenced.made_before w.next_id there))
       | inr off ↦ off
     ]
 
-pub made_stand : (w : World) (c : Command) (signalled : List ℕ) (old new : FenceSet) → new.slots ≡ with_fence_of c w.next_id old.slots
+pub made_stand : {w : World} (c : Command) {signalled : List ℕ} {old : FenceSet} (new : FenceSet) → new.slots ≡ with_fence_of c w.next_id
+    old.slots
     → AreMadeFences w signalled old → AreFencesOf old signalled → AreFencesOf new signalled
-made_stand w (command.Fence label) signalled old new is fenced stand = fence_made old new signalled w.next_id stand is
-    (fresh w signalled old fenced)
-made_stand w (command.Buffer label width height format pattern) signalled old new is fenced stand = same_fences signalled old new is stand
-made_stand w (command.AddFb label buffer) signalled old new is fenced stand = same_fences signalled old new is stand
-made_stand w (command.Mode label m) signalled old new is fenced stand = same_fences signalled old new is stand
-made_stand w (command.Blob label bytes) signalled old new is fenced stand = same_fences signalled old new is stand
-made_stand w (command.Destroy label) signalled old new is fenced stand = same_fences signalled old new is stand
-made_stand w (command.CloseFb label) signalled old new is fenced stand = same_fences signalled old new is stand
-made_stand w (command.Signal label) signalled old new is fenced stand = same_fences signalled old new is stand
-made_stand w (command.Atomic r) signalled old new is fenced stand = same_fences signalled old new is stand
-made_stand w command.Wait signalled old new is fenced stand = same_fences signalled old new is stand
+made_stand {w} (command.Fence label) {signalled} {old} new is fenced stand = fence_made old new signalled w.next_id stand is
+    (fresh fenced)
+made_stand (command.Buffer label width height format pattern) new is fenced stand = same_fences new is stand
+made_stand (command.AddFb label buffer) new is fenced stand = same_fences new is stand
+made_stand (command.Mode label m) new is fenced stand = same_fences new is stand
+made_stand (command.Blob label bytes) new is fenced stand = same_fences new is stand
+made_stand (command.Destroy label) new is fenced stand = same_fences new is stand
+made_stand (command.CloseFb label) new is fenced stand = same_fences new is stand
+made_stand (command.Signal label) new is fenced stand = same_fences new is stand
+made_stand (command.Atomic r) new is fenced stand = same_fences new is stand
+made_stand command.Wait new is fenced stand = same_fences new is stand
 
 -- A fence is signalled
 
@@ -215,12 +219,12 @@ fence_then (content.Mode m) e = absurd (false≢true e)
 fence_then (content.Blob bytes) e = absurd (false≢true e)
 
 -- a `signal` that is done signals a fence that was made
-pub signals_made : (t : Topology) (w : World) (client label id : ℕ) (signalled : List ℕ) (fences : FenceSet)
+pub signals_made : (t : Topology) {w : World} (client label : ℕ) {id : ℕ} {signalled : List ℕ} {fences : FenceSet}
     → AreMadeFences w signalled fences → fence_of w.things (command.Signal label) (execute t w client (command.Signal label)).reply
     ≡ Some id
     → is_made fences id ≡ true
 unfolding execute
-signals_made t w client label id signalled fences fenced is = of_thing (thing_labelled w.things label) refl is where
+signals_made t {w} client label {id} {fences} fenced is = of_thing (thing_labelled w.things label) refl is where
   of_fence : (u : Thing) (b : Bool) → thing_labelled w.things label ≡ Some u → is_made_fence u.content ≡ b
       → fence_if_done (signal_unless w (signal_refusal (Some u))).reply (Some u) ≡ Some id → is_made fences id ≡ true
   of_fence u true found fence e =
@@ -234,9 +238,9 @@ signals_made t w client label id signalled fences fenced is = of_thing (thing_la
   of_thing None found e = absurd cc
   of_thing (Some u) found e = of_fence u (is_made_fence u.content) found refl e
 
-pub signalled_fenced : (w : World) (signalled : List ℕ) (fences : FenceSet) (id : ℕ) → is_made fences id ≡ true
+pub signalled_fenced : {w : World} {signalled : List ℕ} {fences : FenceSet} (id : ℕ) → is_made fences id ≡ true
     → AreMadeFences w signalled fences → AreMadeFences w (id ∷ signalled) (with_signal fences (Some id))
-signalled_fenced w signalled fences id made fenced = record {
+signalled_fenced {w} {signalled} {fences} id made fenced = record {
   made = things_more fences (with_signal fences (Some id)) (λ other there. still_made fences id other ∙ there) w.things fenced.made;
   made_before = λ other there. still_made fences id other ∙ before other there;
   below = below-with_value fences.slots w.next_id id true fenced.below;

@@ -38,13 +38,13 @@ first_stores clients present queues registers = record {
   freed = record { items = []; places = 0; room = 0 };
 }
 
-pub stands_first : (s : Script) (clients : Standing) (present : Duplicates) (queues : List Queue) (registers : RegisterFile)
+pub stands_first : {s : Script} {clients : Standing} {present : Duplicates} {queues : List Queue} (registers : RegisterFile)
     → IsWellFormed s
     → AreClientsOf (first_machine s.topology).contexts clients → IsPresent s.topology (start s.topology) present → queues
     ≡ replicate (length s.clients) empty_queue → StandsForDevice s.topology (first_machine s.topology).device registers
     → Stands (record { script = s; steps = [] }) (first_stores clients present queues registers)
 unfolding read run_steps are_legal freed_from
-stands_first s clients present queues registers formed clients_stand present_stand queues_are registers_stand = record {
+stands_first {s} {clients} {queues} registers formed clients_stand present_stand queues_are registers_stand = record {
   formed = formed;
   history = refl;
   stores = record {

@@ -1,5 +1,5 @@
 -- The least commit at which something is found that no commit has which is cleaned.
-use Rattle.std.proofs.Common.{◌≡◌, ℕ, ◌+◌, ◌<◌, true, List, length, Option, Some, None, inl, inr, sym, ap, subst, arith}
+use Rattle.std.proofs.Common.{◌≡◌, ℕ, ◌+◌, ◌<◌, true, List, length, Option, Some, None, inl, inr, sym, subst, arith}
 use Rattle.std.proofs.lemmas.Bool.{cases_lt}
 use Rattle.kms_model.specs.declared.objects.Topology.{Topology}
 use Rattle.kms_model.specs.declared.runs.Latch.{Latch}
@@ -40,16 +40,12 @@ module _ (t : Topology) (commits : List Commit) (marks : Marks) (latches : List 
         | inr above ↦ over j (first t commits marks latches stand j above within)
       ]
 
-pub tail_within : (r v : Run) (st : Stores) → Stands r st → r ≡ v → (from k : ℕ) → FindsFirst st.tracker from (Some k)
-    → k < length (machine v).device.commits
-tail_within r v st stands same from k first =
-    let found = first r.script.topology (machine r).device.commits (machine r).device.marks
-    (machine r).records.latches stands.stores.tracker in
-    let within = found.1 in
-    let size = ap (λ (w : Run). length (machine w).device.commits) same in
-    omega (arith, within, size)
+pub tail_within : {r : Run} {st : Stores} → Stands r st → (from k : ℕ) → FindsFirst st.tracker from (Some k)
+    → k < length (machine r).device.commits
+tail_within {r} stands from k first =
+    (first r.script.topology (machine r).device.commits (machine r).device.marks (machine r).records.latches stands.stores.tracker).1
 
-module _ (A : Type 0) (r v : Run) (st : Stores) (stands : Stands r st) (same : r ≡ v) (f : ℕ → Option A)
+module _ (A : Type 0) {r : Run} {st : Stores} (stands : Stands r st) (f : ℕ → Option A)
     (over : (k : ℕ) → has_number (machine r).device.marks.cleaned k ≡ true → f k ≡ None) where
   pub nothing_further : (from k : ℕ) → FindsFirst st.tracker from (Some k) → None ≡ f k → ((j : ℕ) → j < from → f j ≡ None)
       → (j : ℕ) → j < k + 1 → f j ≡ None
@@ -58,19 +54,18 @@ module _ (A : Type 0) (r v : Run) (st : Stores) (stands : Stands r st) (same : r
       (machine r).records.latches st.tracker stands.stores.tracker (λ j. f j ≡ None) over from k first (sym none) before
 
   pub something_found : (from k : ℕ) (x : A) → FindsFirst st.tracker from (Some k) → Some x ≡ f k → ((j : ℕ) → j < from → f j ≡ None)
-      → Some x ≡ first_some f (commit_numbers (machine v))
+      → Some x ≡ first_some f (commit_numbers (machine r))
   something_found from k x first is before =
-      let within = tail_within r v st stands same from k first in
+      let within = tail_within stands from k first in
       sym
-      (one_some f 0 (length (machine v).device.commits) k x (omega arith) (omega (arith, within)) (sym is)
+      (one_some f 0 (length (machine r).device.commits) k (omega arith) (omega (arith, within)) (sym is)
       (λ j low high. before_first r.script.topology (machine r).device.commits (machine r).device.marks
       (machine r).records.latches st.tracker stands.stores.tracker (λ i. f i ≡ None) over from k first before j high))
 
   pub nothing_found : (from : ℕ) → FindsFirst st.tracker from None → ((j : ℕ) → j < from → f j ≡ None)
-      → None ≡ first_some f (commit_numbers (machine v))
+      → None ≡ first_some f (commit_numbers (machine r))
   nothing_found from first before =
-      let size = ap (λ (w : Run). length (machine w).device.commits) same in
       sym
-      (none_some f 0 (length (machine v).device.commits)
+      (none_some f 0 (length (machine r).device.commits)
       (λ j low high. of_all r.script.topology (machine r).device.commits (machine r).device.marks
-      (machine r).records.latches st.tracker stands.stores.tracker (λ i. f i ≡ None) over from first before j (omega (arith, high, size))))
+      (machine r).records.latches st.tracker stands.stores.tracker (λ i. f i ≡ None) over from first before j (omega (arith, high))))

@@ -39,7 +39,7 @@ use Rattle.kms_core.specs.Freeing.{AreAllOf, AreFreed, AreRising, framebuffers_i
 use Rattle.kms_core.specs.Stored.{AreHeld, AreStored, without_freed}
 use Rattle.kms_core.specs.Logs.{Reserved}
 use Rattle.kms_core.specs.Needs.{Accounts, Frees, HasPlaceFor, MayAccount, TellNeeds}
-use Rattle.kms_core.specs.Run.{Run, machine}
+use Rattle.kms_core.specs.Run.{Run, gains, machine}
 use Rattle.kms_core.specs.Stands.{Stores, Stands, StandsAt}
 use Rattle.kms_core.proofs.freeing.FreedHistories.{Executes, Latches, added_freed, changes, latch_frees, make_frees, quiet_freed}
 use Rattle.kms_core.proofs.freeing.FreedHistories.{told_freed}
@@ -56,18 +56,18 @@ use Rattle.kms_core.proofs.stores.Histories.{goes_freeing, with_fbs, with_freed}
 use Rattle.kms_core.proofs.stores.StoredCalls.{IsLeft, LeavesFbs, added_takes, closed_is, execute_leaves, taken_stored}
 
 -- the stores that stand for a machine tell what it needs
-pub tell_needs : (s : Script) (m : Machine) (st : Stores) → IsDevice s.topology → StandsAt s m st
+pub tell_needs : {s : Script} {m : Machine} {st : Stores} → IsDevice s.topology → StandsAt s m st
     → TellNeeds s.topology m st.made st.present st.registers st.tracker s.topology.crtcs
-tell_needs s m st device stands =
+tell_needs device stands =
     record { device = device; count = refl; world = stands.world; written = stands.registers; kept = stands.tracker }
 
 -- There are places for candidates that are needed.
 
-pub needed_places : (t : Topology) (m : Machine) (things : List Thing) (ids : List ℕ) → m.device.world.things ≡ things
+pub needed_places : (t : Topology) (m : Machine) {things : List Thing} (ids : List ℕ) → m.device.world.things ≡ things
     → AreNumbered 1000 m.device.world.things → AreRising 0 ids
     → ((id : ℕ) → IsIn id ids → (x : Thing) → x.id ≡ id → is_framebuffer x.content ≡ true → is_needed t m x ≡ true)
     → framebuffers_in things ids ≤ length (filter (is_needed t m) m.device.world.things)
-needed_places t m things ids same numbered rising needed =
+needed_places t m ids same numbered rising needed =
     subst (λ all. framebuffers_in all ids ≤ length (filter (is_needed t m) m.device.world.things)) same
     (as_many 1000 (is_needed t m) m.device.world.things 0 (filter (λ id. is_framebuffer_in (thing_with_id m.device.world.things id)) ids)
     numbered (rising_filter 0 _ ids rising) (λ id is.
@@ -79,24 +79,24 @@ needed_places t m things ids same numbered rising needed =
     at id None found e needed = absurd cc
     at id (Some x) found e needed = needed x (find-same m.device.world.things id x found) e
 
-numbered_of : (r : Run) (st : Stores) → Stands r st → AreNumbered 1000 (machine r).device.world.things
-numbered_of r st stands = (history_kept r.script r.steps (plain-from r.script stands.formed) stands.history).present.lawful.numbered.things
+numbered_of : {r : Run} {st : Stores} → Stands r st → AreNumbered 1000 (machine r).device.world.things
+numbered_of {r} stands = (history_kept r.script r.steps (plain-from r.script stands.formed) stands.history).present.lawful.numbered.things
 
 -- those of the picture that a CRTC shows
-pub live_places : (r : Run) (st : Stores) (c : ℕ) (ids : List ℕ) → Stands r st → IsIn c (ids_of r.script.topology Crtc)
+pub live_places : {r : Run} {st : Stores} (c : ℕ) {ids : List ℕ} → Stands r st → IsIn c (ids_of r.script.topology Crtc)
     → AreAllOf ids (λ id. picture_names id (decoded_picture r.script.topology (machine r).device.live c))
     → framebuffers_in st.made.things ids ≤ st.freed.places
-live_places r st c ids stands is_crtc A =
+live_places {r} {st} c {ids} stands is_crtc A =
     let t = r.script.topology in
     let m = machine r in
     let few = stands.freed.places in
-    let most = needed_places t m st.made.things ids stands.stores.world.things (numbered_of r st stands) A.rising
+    let most = needed_places t m ids stands.stores.world.things (numbered_of stands) A.rising
     (λ id is x own framebuffer.
     needed_by t m x (record {
       framebuffer = framebuffer;
       why = inr
           (inr (inl (live_by t m.device x.id c is_crtc
-          (subst (λ z. picture_names z (decoded_picture t m.device.live c) ≡ true) (sym own) (each_of ids _ A id is)))));
+          (subst (λ z. picture_names z (decoded_picture t m.device.live c) ≡ true) (sym own) (each_of A id is)))));
     })) in
     omega (arith, few, most)
 
@@ -110,10 +110,10 @@ abbrev TellsLayers : Stores → ℕ → List Layer → Type 0
 TellsLayers st c layers = (t : Topology) (d : DeviceState) → StandsForDevice t d st.registers → layers
     ≡ picture_layers (decoded_picture t d.live c)
 
-pub live_all : (r : Run) (st : Stores) (c : ℕ) (layers : List Layer) (found ids : List ℕ) → Stands r st
+pub live_all : {r : Run} {st : Stores} (c : ℕ) (layers : List Layer) {found ids : List ℕ} → Stands r st
     → AreAllOf found (λ id. layers_name id layers) → TellsLayers st c layers → ids ≡ found
     → AreAllOf ids (λ id. picture_names id (decoded_picture r.script.topology (machine r).device.live c))
-live_all r st c layers found ids stands all tells is =
+live_all {r} c layers stands all tells is =
     let t = r.script.topology in
     let d = (machine r).device in
     rw is
@@ -122,35 +122,35 @@ live_all r st c layers found ids stands all tells is =
       same = λ id. all.same id ∙ ap (layers_name id) (tells t d stands.stores.registers) ∙ named_by id (decoded_picture t d.live c);
     })
 
-pub live_few : (r : Run) (st : Stores) (c : ℕ) (layers : List Layer) → Stands r st → TellsLayers st c layers → length layers ≤ 16
-live_few r st c layers stands tells =
+pub live_few : {r : Run} {st : Stores} (c : ℕ) (layers : List Layer) → Stands r st → TellsLayers st c layers → length layers ≤ 16
+live_few {r} c layers stands tells =
     subst (λ ls. length ls ≤ 16) (sym (tells r.script.topology (machine r).device stands.stores.registers))
     (shown_few r.script.topology (machine r).device.live c stands.formed.device)
 
 -- and those of a commit that is not cleaned
-pub kept_places : (r : Run) (st : Stores) (k : ℕ) (ids : List ℕ) → Stands r st → k < length (machine r).device.commits
+pub kept_places : {r : Run} {st : Stores} (k : ℕ) (ids : List ℕ) → Stands r st → k < length (machine r).device.commits
     → is_cleaned (machine r).device k ≡ false → AreAllOf ids (λ id. commit_keeps r.script.topology (machine r).device id k)
     → framebuffers_in st.made.things ids ≤ st.freed.places
-kept_places r st k ids stands within unclean A =
+kept_places {r} {st} k ids stands within unclean A =
     let t = r.script.topology in
     let m = machine r in
     let few = stands.freed.places in
-    let most = needed_places t m st.made.things ids stands.stores.world.things (numbered_of r st stands) A.rising
+    let most = needed_places t m ids stands.stores.world.things (numbered_of stands) A.rising
     (λ id is x own framebuffer.
     needed_by t m x (record {
       framebuffer = framebuffer;
       why = inr
           (inr (inr (keeps_by t m x.id k (range-in 0 (length m.device.commits) k (omega arith) (omega (arith, within))) unclean
-          (subst (λ z. commit_keeps t m.device z k ≡ true) (sym own) (each_of ids _ A id is)))));
+          (subst (λ z. commit_keeps t m.device z k ≡ true) (sym own) (each_of A id is)))));
     })) in
     omega (arith, few, most)
 
 -- Candidates that are needed are in the store.
 
-pub live_held : (r : Run) (st : Stores) (c : ℕ) (ids : List ℕ) → Stands r st → IsIn c (ids_of r.script.topology Crtc)
+pub live_held : {r : Run} {st : Stores} (c : ℕ) {ids : List ℕ} → Stands r st → IsIn c (ids_of r.script.topology Crtc)
     → AreAllOf ids (λ id. picture_names id (decoded_picture r.script.topology (machine r).device.live c))
     → AreHeld st.made.things st.made.fbs ids
-live_held r st c ids stands is_crtc A =
+live_held {r} {st} c {ids} stands is_crtc A =
     let t = r.script.topology in
     let m = machine r in
     needed_held t m st.made.things st.made.fbs ids stands.stores.world.things stands.stored (λ id is x own framebuffer.
@@ -158,13 +158,13 @@ live_held r st c ids stands is_crtc A =
       framebuffer = framebuffer;
       why = inr
           (inr (inl (live_by t m.device x.id c is_crtc
-          (subst (λ z. picture_names z (decoded_picture t m.device.live c) ≡ true) (sym own) (each_of ids _ A id is)))));
+          (subst (λ z. picture_names z (decoded_picture t m.device.live c) ≡ true) (sym own) (each_of A id is)))));
     }))
 
-pub kept_held : (r : Run) (st : Stores) (k : ℕ) (ids : List ℕ) → Stands r st → k < length (machine r).device.commits
+pub kept_held : {r : Run} {st : Stores} (k : ℕ) (ids : List ℕ) → Stands r st → k < length (machine r).device.commits
     → is_cleaned (machine r).device k ≡ false → AreAllOf ids (λ id. commit_keeps r.script.topology (machine r).device id k)
     → AreHeld st.made.things st.made.fbs ids
-kept_held r st k ids stands within unclean A =
+kept_held {r} {st} k ids stands within unclean A =
     let t = r.script.topology in
     let m = machine r in
     needed_held t m st.made.things st.made.fbs ids stands.stores.world.things stands.stored (λ id is x own framebuffer.
@@ -172,35 +172,34 @@ kept_held r st k ids stands within unclean A =
       framebuffer = framebuffer;
       why = inr
           (inr (inr (keeps_by t m x.id k (range-in 0 (length m.device.commits) k (omega arith) (omega (arith, within))) unclean
-          (subst (λ z. commit_keeps t m.device z k ≡ true) (sym own) (each_of ids _ A id is)))));
+          (subst (λ z. commit_keeps t m.device z k ≡ true) (sym own) (each_of A id is)))));
     }))
 
 -- A history goes on by a step that frees some candidates.
-pub goes_told : (r : Run) (old new : Stores) (step : Step) (ids : List ℕ) (freed : Reserved (ℕ × ℕ)) (made : Made)
+pub goes_told : {r w : Run} {old : Stores} (new : Stores) (step : Step) (ids : List ℕ) (freed : Reserved (ℕ × ℕ)) (made : Made)
     → IsTold r.script.topology (machine r) (next r.script (machine r) step) ids
     → WereStored r.script.topology (machine r) (next r.script (machine r) step) new.made.fbs
     → Frees new.made made new.present new.registers new.tracker r.script.topology.crtcs ids old.freed freed
-    → (steps : List Step) → steps ≡ r.steps ++ step ∷ [] → Stands r old → legal r.script (machine r) step ≡ true
-    → StandsAt r.script (next r.script (machine r) step) new
-    → Stands (record { script = r.script; steps = steps }) (record new { freed = freed; made = made })
-goes_told r old new step ids freed made told were frees steps is stands is_legal after =
+    → Stands r old → w ≡ gains r (step ∷ []) → legal r.script (machine r) step ≡ true
+    → StandsAt r.script (next r.script (machine r) step) new → Stands w (record new { freed = freed; made = made })
+goes_told {r} {old = old} new step ids freed made told were frees stands more is_legal after =
     let t = r.script.topology in
     let n = next r.script (machine r) step in
-    let tell = tell_needs r.script n new stands.formed.device after in
+    let tell = tell_needs stands.formed.device after in
     let left = frees.made t n tell in
-    goes_freeing r old (record new { freed = freed; made = made }) step steps is stands is_legal
+    goes_freeing step stands more is_legal
     (subst (λ z. StandsAt r.script n (record new { freed = freed; made = z })) (sym left)
-    (with_fbs r.script n (record new { freed = freed }) (without_freed (freed_among t n ids) new.made.fbs)
-    (with_freed r.script n new freed after)))
-    (told_freed r.script r.steps step (plain-from r.script stands.formed) stands.history is_legal old.freed freed ids stands.freed told
+    (with_fbs (without_freed (freed_among t n ids) new.made.fbs)
+    (with_freed freed after)))
+    (told_freed r.script r.steps step (plain-from r.script stands.formed) stands.history is_legal freed stands.freed told
     (frees.items t n tell) (frees.places t n tell))
     (subst (λ (z : Made). AreStored t n z.fbs) (sym left)
-    (told_stored t (machine r) n ids new.made.fbs (numbered_of r old stands) told were))
+    (told_stored new.made.fbs (numbered_of stands) told were))
 
 -- a latch
-pub latches_by : (s : Script) (m n : Machine) (c : ℕ) (l : Latch) → SameNeeds m n ⊎ Latches s m n c → l.crtc ≡ index_of c
+pub latches_by : {s : Script} {m n : Machine} {c : ℕ} (l : Latch) → SameNeeds m n ⊎ Latches s m n c → l.crtc ≡ index_of c
     → IsIn c (ids_of s.topology Crtc) → n.records.latches ≡ l ∷ m.records.latches → Latches s m n c
-latches_by s m n c l (inl same) of_crtc is_crtc one =
+latches_by l (inl same) of_crtc is_crtc one =
     record {
       world = same.world;
       commits = same.commits;
@@ -211,37 +210,36 @@ latches_by s m n c l (inl same) of_crtc is_crtc one =
       recorded =
           one;
     }
-latches_by s m n c l (inr latched) of_crtc is_crtc one = latched
+latches_by l (inr latched) of_crtc is_crtc one = latched
 
-pub goes_latching : (r : Run) (old new : Stores) (step : Step) (c : ℕ) (ids : List ℕ) (freed : Reserved (ℕ × ℕ)) (made : Made)
+pub goes_latching : {r w : Run} {old : Stores} {new : Stores} (step : Step) {c : ℕ} {ids : List ℕ} (freed : Reserved (ℕ × ℕ)) (made : Made)
     → Latches r.script (machine r) (next r.script (machine r) step) c
     → AreAllOf ids (λ id. picture_names id (decoded_picture r.script.topology (machine r).device.live c))
     → Frees new.made made new.present new.registers new.tracker r.script.topology.crtcs ids old.freed freed → new.made.fbs ≡ old.made.fbs
-    → (steps : List Step) → steps ≡ r.steps ++ step ∷ [] → Stands r old → legal r.script (machine r) step ≡ true
-    → StandsAt r.script (next r.script (machine r) step) new
-    → Stands (record { script = r.script; steps = steps }) (record new { freed = freed; made = made })
-goes_latching r old new step c ids freed made L A frees same_fbs steps is stands is_legal after =
-    goes_told r old new step ids freed made
-    (latch_frees r.script r.steps step (plain-from r.script stands.formed) stands.history is_legal c ids L A)
+    → Stands r old → w ≡ gains r (step ∷ []) → legal r.script (machine r) step ≡ true
+    → StandsAt r.script (next r.script (machine r) step) new → Stands w (record new { freed = freed; made = made })
+goes_latching {r} {new} step {c} {ids} freed made L A frees same_fbs stands more is_legal after =
+    goes_told new step ids freed made
+    (latch_frees r.script r.steps step (plain-from r.script stands.formed) stands.history is_legal L A)
     (same_stored r.script.topology (machine r) (next r.script (machine r) step) new.made.fbs (ap (λ (w : World). w.things) L.world)
     (subst (AreStored r.script.topology (machine r)) (sym same_fbs) stands.stored))
-    frees steps is stands is_legal after
+    frees stands more is_legal after
 
 -- a cleanup
-pub goes_cleaning : (r : Run) (old new : Stores) (k : ℕ) (ids : List ℕ) (freed : Reserved (ℕ × ℕ)) (made : Made)
+pub goes_cleaning : {r w : Run} {old : Stores} (new : Stores) (k : ℕ) (ids : List ℕ) (freed : Reserved (ℕ × ℕ)) (made : Made)
     → k < length (machine r).device.commits → is_cleaned (machine r).device k ≡ false
     → AreAllOf ids (λ id. commit_keeps r.script.topology (machine r).device id k)
     → Frees new.made made new.present new.registers new.tracker r.script.topology.crtcs ids old.freed freed → new.made.fbs ≡ old.made.fbs
-    → (steps : List Step) → steps ≡ r.steps ++ step.Cleanup k ∷ [] → Stands r old
+    → Stands r old → w ≡ gains r (step.Cleanup k ∷ [])
     → legal r.script (machine r) (step.Cleanup k) ≡ true → StandsAt r.script (next r.script (machine r) (step.Cleanup k)) new
-    → Stands (record { script = r.script; steps = steps }) (record new { freed = freed; made = made })
+    → Stands w (record new { freed = freed; made = made })
 unfolding next
-goes_cleaning r old new k ids freed made within unclean A frees same_fbs steps is stands is_legal after =
-    goes_told r old new (step.Cleanup k) ids freed made
-    (cleanup_told r.script.topology (machine r) k ids (numbered_of r old stands) within unclean A)
+goes_cleaning {r} {old = old} new k ids freed made within unclean A frees same_fbs stands more is_legal after =
+    goes_told new (step.Cleanup k) ids freed made
+    (cleanup_told r.script.topology (machine r) k ids (numbered_of stands) within unclean A)
     (same_stored r.script.topology (machine r) (cleaned_as (machine r) k) new.made.fbs refl
     (subst (AreStored r.script.topology (machine r)) (sym same_fbs) stands.stored))
-    frees steps is stands is_legal after
+    frees stands more is_legal after
 
 -- Commands that make and close things
 
@@ -301,12 +299,12 @@ module _ (r : Run) (old : Stores) (client : ℕ) (c : Command) (told : Reply) (s
         → AreFreed r.script (r.steps ++ step.Make client ∷ []) freed
     at (command.AddFb label buffer) (reply.Made id) frees kept =
         added_freed r.script r.steps
-        (step.Make client) plain stands.history is_legal old.freed freed client label buffer id stands.freed kept.items
+        (step.Make client) plain stands.history is_legal freed stands.freed kept.items
         (let places = kept.places in omega (arith, places)) frees
     at (command.CloseFb label) reply.Done frees records =
-        let tell = tell_needs r.script n new stands.formed.device after in
+        let tell = tell_needs stands.formed.device after in
         let now = records frees.now (ap (λ things. thing_labelled things label) (sym after.world.things) ∙ frees.found) in
-        told_freed r.script r.steps (step.Make client) plain stands.history is_legal old.freed freed (frees.thing.id ∷ []) stands.freed
+        told_freed r.script r.steps (step.Make client) plain stands.history is_legal freed stands.freed
         frees.told
         (now.items r.script.topology n tell ∙ ap (λ id. old.freed.items ++ freed_among r.script.topology n (id ∷ [])) frees.same_id)
         (now.places r.script.topology n tell ∙ ap (λ id. freed.places + length (freed_among r.script.topology n (id ∷ []))) frees.same_id)
@@ -333,12 +331,12 @@ module _ (r : Run) (old : Stores) (client : ℕ) (c : Command) (told : Reply) (s
         → made.fbs ≡ fbs_after old.made client c → MayAccount made c a
     at (command.AddFb label buffer) (reply.Made id) frees is_fbs =
         added_takes r.script.topology (machine r) n client label buffer id frees
-        (numbered_of r old stands) ends old.made same_things stands.stores.world.next_id stands.stored made.fbs is_fbs
+        (numbered_of stands) ends old.made same_things stands.stores.world.next_id stands.stored made.fbs is_fbs
     at (command.CloseFb label) reply.Done frees is_fbs = λ u found.
         subst (λ xs. AreHeld made.things xs (u.id ∷ []))
-        (sym (closed_is r.script.topology (machine r) n client label frees old.made made.fbs same_things is_fbs))
+        (sym (closed_is r.script.topology (machine r) n client label frees old.made same_things is_fbs))
         (closed_held r.script.topology (machine r) n client label frees
-        (numbered_of r old stands) old.made.fbs stands.stored made.things same u found)
+        (numbered_of stands) old.made.fbs stands.stored same found)
     at _ _ frees is_fbs = tt
 
   -- what is needed after the step is stored then
@@ -355,19 +353,19 @@ module _ (r : Run) (old : Stores) (client : ℕ) (c : Command) (told : Reply) (s
       fbs = fbs_taken new.made.fbs id;
       same = kept.made;
       stored = taken_stored r.script.topology (machine r) n client label buffer id frees
-          (numbered_of r old stands) ends old.made same_things stands.stores.world.next_id stands.stored new.made.fbs is_fbs;
+          (numbered_of stands) ends old.made same_things stands.stores.world.next_id stands.stored new.made.fbs is_fbs;
     }
     at (command.CloseFb label) reply.Done frees leaves is_fbs records =
         let t = r.script.topology in
         let now = records frees.now (ap (λ things. thing_labelled things label) (sym after.world.things) ∙ frees.found) in
-        let were = closed_were t (machine r) n client label frees (numbered_of r old stands) old.made.fbs stands.stored in
+        let were = closed_were t (machine r) n client label frees (numbered_of stands) old.made.fbs stands.stored in
         record {
           fbs = without_freed (freed_among t n (frees.now.id ∷ [])) new.made.fbs;
-          same = now.made t n (tell_needs r.script n new stands.formed.device after);
+          same = now.made t n (tell_needs stands.formed.device after);
           stored = subst (λ id. AreStored t n (without_freed (freed_among t n (id ∷ [])) new.made.fbs)) (sym frees.same_id)
-              (told_stored t (machine r) n (frees.thing.id ∷ []) new.made.fbs (numbered_of r old stands) frees.told
+              (told_stored new.made.fbs (numbered_of stands) frees.told
               (subst (WereStored t (machine r) n)
-              (sym (closed_is t (machine r) n client label frees old.made new.made.fbs same_things is_fbs)) were));
+              (sym (closed_is t (machine r) n client label frees old.made same_things is_fbs)) were));
         }
     at _ _ frees leaves is_fbs kept = record {
       fbs = new.made.fbs;

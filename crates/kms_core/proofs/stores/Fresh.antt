@@ -21,21 +21,21 @@ abbrev pub named_among : List Thing → ℕ → Look
 named_among things label = look_of (thing_labelled things label)
 
 -- the first that differs, answered
-pub answers_again : (r v : Run) (st : Stores) (used : List (ℕ × Look)) (stale : Stale) (decision given : Decided) → Stands r st → r ≡ v
+pub answers_again : {r : Run} {st : Stores} (used : List (ℕ × Look)) (stale : Stale) (decision given : Decided) → Stands r st
     → IsFirstStale (named_among st.made.things) used (Some stale)
-    → given ≡ answer.Again stale.label stale.was stale.now → IsDecided (look_up (world v)) used decision given
-answers_again r v st used stale decision given stands same first is =
+    → given ≡ answer.Again stale.label stale.was stale.now → IsDecided (look_up (world r)) used decision given
+answers_again {r} used stale decision given stands first is =
     let now : IsFirstStale (look_up (world r)) used (Some stale) = subst
     (λ (things : List Thing). IsFirstStale (named_among things) used (Some stale)) (sym stands.stores.world.things) first in
-    rw is (subst (λ (x : Run). IsFirstStale (look_up (world x)) used (Some stale)) same now)
+    rw is now
 
 -- none differs
-pub fresh_now : (r v : Run) (st : Stores) (used : List (ℕ × Look)) → Stands r st → r ≡ v
-    → IsFirstStale (named_among st.made.things) used None → IsFirstStale (look_up (world v)) used None
-fresh_now r v st used stands same none =
+pub fresh_now : {r : Run} {st : Stores} (used : List (ℕ × Look)) → Stands r st
+    → IsFirstStale (named_among st.made.things) used None → IsFirstStale (look_up (world r)) used None
+fresh_now {r} used stands none =
     let now : IsFirstStale (look_up (world r)) used None = subst (λ (things : List Thing). IsFirstStale (named_among things) used None)
     (sym stands.stores.world.things) none in
-    subst (λ (x : Run). IsFirstStale (look_up (world x)) used None) same now
+    now
 
 -- then they are what the labels name
 are_looks : (f : ℕ → Look) (used : List (ℕ × Look)) → IsFirstStale f used None → used

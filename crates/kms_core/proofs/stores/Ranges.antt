@@ -72,12 +72,12 @@ none_some f a zero none = refl
 none_some f a (suc n) none = rw (none a (omega arith) (omega arith))
     (none_some f (a + 1) n (λ j low high. none j (omega (arith, low)) (omega (arith, high))))
 
-pub one_some : {A : Type 0} (f : ℕ → Option A) (a n k : ℕ) (x : A) → a ≤ k → k < a + n → f k ≡ Some x
+pub one_some : {A : Type 0} (f : ℕ → Option A) (a n k : ℕ) {x : A} → a ≤ k → k < a + n → f k ≡ Some x
     → ((j : ℕ) → a ≤ j → j < k → f j ≡ None) → first_some f (range_with_len a n) ≡ Some x
-one_some f a zero k x low high is none = absurd (omega (arith, low, high))
-one_some f a (suc n) k x low high is none =
+one_some f a zero k low high is none = absurd (omega (arith, low, high))
+one_some f a (suc n) k {x} low high is none =
     elim (cases_lt a k) [
       | inl before ↦ rw (none a (omega arith) before)
-          (one_some f (a + 1) n k x (omega (arith, before)) (omega (arith, high)) is (λ j above below. none j (omega (arith, above)) below))
+          (one_some f (a + 1) n k (omega (arith, before)) (omega (arith, high)) is (λ j above below. none j (omega (arith, above)) below))
       | inr behind ↦ (let same : a ≡ k = omega (arith, low, behind) in rw (ap f same ∙ is) refl)
     ]

@@ -41,18 +41,15 @@ ArePassed v test from =
     (t : Topology) (commits : List Commit) (marks : Marks) (latches : List Latch) → IsTrackerOf t commits marks latches v → (j : ℕ)
     → j < from → j < length commits → IsPassedBy marks test j
 
-pub none_passed : (v : Tracking) (test : ℕ → Bool) → ArePassed v test 0
-none_passed v test t commits marks latches stand j low within = absurd (omega (arith, low))
-
-pub one_passed : (v : Tracking) (test : ℕ → Bool) (from k : ℕ) → ArePassed v test from → FindsFirst v from (Some k) → test k ≡ false
+pub one_passed : {v : Tracking} {test : ℕ → Bool} {from : ℕ} (k : ℕ) → ArePassed v test from → FindsFirst v from (Some k) → test k ≡ false
     → ArePassed v test (k + 1)
-one_passed v test from k passed first fails t commits marks latches stand =
+one_passed {v} {test} {from} k passed first fails t commits marks latches stand =
     up_to_first t commits marks latches v stand (λ j. j < length commits → IsPassedBy marks test j) (λ j cleaned within. inl cleaned) from k
     first (λ within. inr fails) (passed t commits marks latches stand)
 
-pub one_found : (v : Tracking) (test : ℕ → Bool) (from k : ℕ) → ArePassed v test from → FindsFirst v from (Some k) → test k ≡ true
+pub one_found : {v : Tracking} {test : ℕ → Bool} {from : ℕ} (k : ℕ) → ArePassed v test from → FindsFirst v from (Some k) → test k ≡ true
     → FindsFirstWhere v test (Some k)
-one_found v test from k passed first passes t commits marks latches stand =
+one_found {v} {test} {from} k passed first passes t commits marks latches stand =
     let within : k < length commits = (first t commits marks latches stand).1 in (
       within,
       passes,
@@ -60,8 +57,8 @@ one_found v test from k passed first passes t commits marks latches stand =
           (λ i cleaned inside. inl cleaned) from k first (passed t commits marks latches stand) j before (omega (arith, before, within)),
     )
 
-pub none_found : (v : Tracking) (test : ℕ → Bool) (from : ℕ) → ArePassed v test from → FindsFirst v from None → FindsFirstWhere v test None
-none_found v test from passed first t commits marks latches stand j within =
+pub none_found : {v : Tracking} {test : ℕ → Bool} {from : ℕ} → ArePassed v test from → FindsFirst v from None → FindsFirstWhere v test None
+none_found {v} {test} {from} passed first t commits marks latches stand j within =
     of_all t commits marks latches v stand (λ i. i < length commits → IsPassedBy marks test i) (λ i cleaned inside. inl cleaned) from first
     (passed t commits marks latches stand) j within within
 
@@ -70,8 +67,8 @@ pub record GoesUp (from k : ℕ) : Type 0 where
   pub up : from ≤ k
   pub fits : k < 4294967295
 
-pub goes_up : (v : Tracking) (from k : ℕ) → AreFewCommits v → FindsFirst v from (Some k) → GoesUp from k
-goes_up v from k few first =
+pub goes_up : {v : Tracking} (from k : ℕ) → AreFewCommits v → FindsFirst v from (Some k) → GoesUp from k
+goes_up from k few first =
     let found = first few.topology few.commits few.marks few.latches few.stand in
     let up = found.0 in
     let within = found.1 in
@@ -79,9 +76,9 @@ goes_up v from k few first =
     record { up = up; fits = omega (arith, within, bound) }
 
 -- so less is left to seek above it
-pub less_left : (v : Tracking) (from k : ℕ) → AreFewCommits v → FindsFirst v from (Some k) → 4294967296 - (k + 1) < 4294967296 - from
-less_left v from k few first =
-    let up = goes_up v from k few first in
+pub less_left : {v : Tracking} (from k : ℕ) → AreFewCommits v → FindsFirst v from (Some k) → 4294967296 - (k + 1) < 4294967296 - from
+less_left {v} from k few first =
+    let up = goes_up from k few first in
     let low = up.up in
     let fits = up.fits in
     omega (arith, low, fits)
@@ -93,8 +90,8 @@ both_off true true = refl
 both_off true false = refl
 both_off false b = refl
 
-crtc_low : (t : Topology) (crtc : ℕ) → HasFewObjects t → IsObject t Crtc crtc → index_of crtc < 4
-crtc_low t crtc few object =
+crtc_low : {t : Topology} {crtc : ℕ} → HasFewObjects t → IsObject t Crtc crtc → index_of crtc < 4
+crtc_low {crtc} few object =
     let within = object.within in
     let at : index_of crtc ≡ object.index = ap index_of object.same ∙ index_of-object Crtc object.index (omega (arith, within, few.crtcs))
     in
@@ -120,8 +117,8 @@ find_first p a (suc n) k low high passes fails =
       | inr behind ↦ (let same : a ≡ k = omega (arith, low, behind) in rw (ap p same ∙ passes) (ap (λ (n : ℕ). Some n) same))
     ]
 
-pub few_tails : (r : Run) (st : Stores) → Stands r st → AreFewCommits st.tracker
-few_tails r st stands =
+pub few_tails : {r : Run} {st : Stores} → Stands r st → AreFewCommits st.tracker
+few_tails {r} stands =
     let fit = (numbers_fit r.script r.steps stands.formed stands.history).commits in
     record {
       topology = r.script.topology;
@@ -133,12 +130,12 @@ few_tails r st stands =
     }
 
 -- the fences that a commit waits for were made
-pub waited_made : (r : Run) (st : Stores) (k id : ℕ) → Stands r st → k < length (machine r).device.commits
+pub waited_made : {r : Run} {st : Stores} (k id : ℕ) → Stands r st → k < length (machine r).device.commits
     → IsIn id (waited_fences r.script.topology (machine r).device.commits k) → is_made st.fences id ≡ true
-waited_made r st k id stands within is =
+waited_made {r} {st} k id stands within is =
     let t = r.script.topology in
     let d = (machine r).device in
-    let w : IsWaited t d.world.things d.commits k id = (facts r st stands).fences.waits k id within is in
+    let w : IsWaited t d.world.things d.commits k id = (facts stands).fences.waits k id within is in
     ⊎_elim
     (λ (fence : w.thing.content ≡ content.Fence). subst (λ n. is_made st.fences n ≡ true) w.same_id
     (thing_made st.fences d.world.things w.label w.thing stands.stores.fenced.made w.found (ap is_fence fence)))
@@ -146,62 +143,60 @@ waited_made r st k id stands within is =
     let few = few_objects t stands.formed.device in
     let object : IsObject t Crtc out.crtc = ids-in t Crtc out.crtc out.is_crtc in
     let before = out.before in
-    stands.stores.out_fenced out.commit (index_of out.crtc) id (omega (arith, before, within)) (crtc_low t out.crtc few object)
+    stands.stores.out_fenced out.commit (index_of out.crtc) id (omega (arith, before, within)) (crtc_low few object)
     (ap (λ o. out_fence_of t d.commits out.commit o) (crtc_index t out.crtc few out.is_crtc) ∙ out.fence)))
     w.kind
 
 -- a commit's claim is legal where the tracker says that the commit is ready
-claim_is : (r : Run) (st : Stores) (k : ℕ) → Stands r st → IsGoing r → k < length (machine r).device.commits
+claim_is : {r : Run} {st : Stores} (k : ℕ) → Stands r st → IsGoing r → k < length (machine r).device.commits
     → legal r.script (machine r) (step.Claim k) ≡ ready_of st.tracker st.fences k
 unfolding legal may
-claim_is r st k stands going within =
+claim_is {r} {st} k stands going within =
     going_only (machine r).stalled (may_claim r.script.topology (machine r) k) going
     ∙ sym (ready_machine r.script.topology (machine r) st.tracker stands.stores.tracker
     (device_within r.script.topology stands.formed.device) st.fences k
-    (λ id is. stands.stores.fences.same id (waited_made r st k id stands within is)))
+    (λ id is. stands.stores.fences.same id (waited_made k id stands within is)))
 
 -- the claim of a commit that is cleaned is not
-claim_over : (r : Run) (st : Stores) (k : ℕ) → Stands r st → has_number (machine r).device.marks.cleaned k ≡ true
+claim_over : {r : Run} {st : Stores} (k : ℕ) → Stands r st → has_number (machine r).device.marks.cleaned k ≡ true
     → legal r.script (machine r) (step.Claim k) ≡ false
 unfolding legal may may_claim
-claim_over r st k stands cleaned =
-    let marks = (facts r st stands).holds.tail.marks in
+claim_over {r} k stands cleaned =
+    let marks = (facts stands).holds.tail.marks in
     let claimed : is_claimed (machine r).device k ≡ true = (marks.done k (marks.clean_done k cleaned)).0 in
     rw claimed (both_off (not (machine r).stalled) (nat_lt k (length (machine r).device.commits)))
 
-passed_by : (r : Run) (st : Stores) (k : ℕ) → Stands r st → IsGoing r → k < length (machine r).device.commits
+passed_by : {r : Run} {st : Stores} (k : ℕ) → Stands r st → IsGoing r → k < length (machine r).device.commits
     → IsPassedBy (machine r).device.marks (ready_of st.tracker st.fences) k → legal r.script (machine r) (step.Claim k) ≡ false
-passed_by r st k stands going within passed = ⊎_elim (λ cleaned. claim_over r st k stands cleaned)
-    (λ fails. claim_is r st k stands going within ∙ fails) passed
+passed_by {r} {st} k stands going within passed = ⊎_elim (λ cleaned. claim_over k stands cleaned)
+    (λ fails. claim_is k stands going within ∙ fails) passed
 
-answered : (r : Run) (st : Stores) (found : Option ℕ) → Stands r st → IsGoing r
+answered : {r : Run} {st : Stores} (found : Option ℕ) → Stands r st → IsGoing r
     → IsFirstOf (machine r).device.marks (length (machine r).device.commits) (ready_of st.tracker st.fences) found → found ≡ first_claim r
-answered r st None stands going first = sym (find_none (λ k. legal r.script (machine r) (step.Claim k)) 0
-    (length (machine r).device.commits) (λ j low high. passed_by r st j stands going (omega (arith, high)) (first j (omega (arith, high)))))
-answered r st (Some k) stands going first =
+answered {r} {st} None stands going first = sym (find_none (λ k. legal r.script (machine r) (step.Claim k)) 0
+    (length (machine r).device.commits) (λ j low high. passed_by j stands going (omega (arith, high)) (first j (omega (arith, high)))))
+answered {r} {st} (Some k) stands going first =
     let within = first.0 in
     sym (find_first (λ k. legal r.script (machine r) (step.Claim k)) 0 (length (machine r).device.commits) k (omega arith)
-    (omega (arith, within)) (claim_is r st k stands going within ∙ first.1)
-    (λ j low before. passed_by r st j stands going (omega (arith, before, within)) (first.2 j before)))
+    (omega (arith, within)) (claim_is k stands going within ∙ first.1)
+    (λ j low before. passed_by j stands going (omega (arith, before, within)) (first.2 j before)))
 
-pub claim_found : (r v : Run) (st : Stores) (found : Option ℕ) → Stands r st → r ≡ v → st.stalled ≡ false
-    → FindsFirstWhere st.tracker (ready_of st.tracker st.fences) found → found ≡ first_claim v
-claim_found r v st found stands same going first =
-    answered r st found stands (stands.stores.ended ∙ going)
+pub claim_found : {r : Run} {st : Stores} (found : Option ℕ) → Stands r st → st.stalled ≡ false
+    → FindsFirstWhere st.tracker (ready_of st.tracker st.fences) found → found ≡ first_claim r
+claim_found {r} {st} found stands going first =
+    answered found stands (stands.stores.ended ∙ going)
     (first r.script.topology (machine r).device.commits (machine r).device.marks (machine r).records.latches stands.stores.tracker)
-    ∙ ap first_claim same
 
-pub claim_legal : (r v : Run) (st : Stores) (k : ℕ) → Stands r st → r ≡ v → st.stalled ≡ false
+pub claim_legal : {r : Run} {st : Stores} (k : ℕ) → Stands r st → st.stalled ≡ false
     → FindsFirstWhere st.tracker (ready_of st.tracker st.fences) (Some k) → legal r.script (machine r) (step.Claim k) ≡ true
-claim_legal r v st k stands same going first =
+claim_legal {r} {st} k stands going first =
     let found = first r.script.topology (machine r).device.commits (machine r).device.marks
     (machine r).records.latches stands.stores.tracker in
-    claim_is r st k stands (stands.stores.ended ∙ going) found.0 ∙ found.1
+    claim_is k stands (stands.stores.ended ∙ going) found.0 ∙ found.1
 
 -- none is after the end of the history
-pub claim_none : (r v : Run) (st : Stores) → Stands r st → r ≡ v → st.stalled ≡ true → None ≡ first_claim v
+pub claim_none : {r : Run} {st : Stores} → Stands r st → st.stalled ≡ true → None ≡ first_claim r
 unfolding legal
-claim_none r v st stands same ended =
+claim_none {r} stands ended =
     sym (find_none (λ k. legal r.script (machine r) (step.Claim k)) 0 (length (machine r).device.commits)
     (λ j low high. ap (λ b. not b && may r.script (machine r) (step.Claim j)) (stands.stores.ended ∙ ended)))
-    ∙ ap first_claim same

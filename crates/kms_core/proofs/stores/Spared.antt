@@ -8,7 +8,7 @@ use Rattle.kms_model.specs.declared.replies.Reply.{Reply}
 use Rattle.kms_model.specs.declared.replies.Step.{Step}
 use Rattle.kms_model.specs.declared.runs.Latch.{Latch}
 use Rattle.kms_model.specs.declared.tables.Slot.{Slot}
-use Rattle.kms_model.specs.Machine.Histories.{at, legal}
+use Rattle.kms_model.specs.Machine.Histories.{legal}
 use Rattle.kms_model.specs.Machine.State.{Machine}
 use Rattle.kms_model.specs.Things.Tables.{value_with_id}
 use Rattle.kms_model.proofs.TouchedLemmas.{few_objects}
@@ -23,7 +23,7 @@ use Rattle.kms_track.specs.StepLaws.{commit_of_tail_step}
 use Rattle.kms_track.proofs.StepLemmas.{legal_below}
 use Rattle.kms_core.specs.Decisions.{Decides}
 use Rattle.kms_core.specs.Logs.{Logged}
-use Rattle.kms_core.specs.Run.{Run, machine}
+use Rattle.kms_core.specs.Run.{Run, gains, machine}
 use Rattle.kms_core.specs.Stands.{HasSpare, StandsWithSpare, Stands, Stores}
 use Rattle.kms_core.proofs.stores.CommitStates.{facts}
 use Rattle.kms_core.proofs.stores.Histories.{legal_last, told_anew}
@@ -74,8 +74,8 @@ sum_table (s ∷ slots) from n =
     omega (arith, more, both, one, rest)
 
 -- at most 31 steps are left for each tail that is kept
-pub few_left : (r : Run) (st : Stores) → Stands r st → all_left r.script.topology (machine r) ≤ 31 * length st.tracker.tails.slots
-few_left r st stands =
+pub few_left : {r : Run} {st : Stores} → Stands r st → all_left r.script.topology (machine r) ≤ 31 * length st.tracker.tails.slots
+few_left {r} {st} stands =
     let t = r.script.topology in
     let d = (machine r).device in
     let each = sum-more (tail_left t (machine r)) (in_table st.tracker.tails.slots) 0 (length d.commits)
@@ -86,7 +86,7 @@ few_left r st stands =
     of_commit : (k : ℕ) (o : Option Tail) → value_with_id st.tracker.tails.slots k ≡ o → IsKept r.script.topology (machine r).device.commits
         (machine r).device.marks (machine r).records.latches k o
         → tail_left r.script.topology (machine r) k ≤ in_table st.tracker.tails.slots k
-    of_commit k None is kept = (let none = cleaned_over r.script (machine r) k (facts r st stands).holds kept.0 in omega (arith, none))
+    of_commit k None is kept = (let none = cleaned_over r.script (machine r) k (facts stands).holds kept.0 in omega (arith, none))
     of_commit k (Some x) is kept =
         let most = tails_short r.script.topology (machine r) k (few_objects r.script.topology stands.formed.device) in
         let full : in_table st.tracker.tails.slots k ≡ 31 = ap (λ o. 31 * one_if (is_some o)) is in
@@ -98,65 +98,73 @@ few_left r st stands =
 abbrev pub with_steps : Run → List Step → Run
 with_steps r steps = record { script = r.script; steps = steps }
 
-shorter : (r : Run) (old new : Stores) (step : Step) (before steps : List Step) → Stands r old → Stands (with_steps r steps) new → before
-    ≡ r.steps → steps ≡ before ++ step ∷ [] → LeavesLessInAll r.script.topology (machine r) (machine (with_steps r steps)) step
-shorter r old new step before steps stands after was more =
-    let is : steps ≡ r.steps ++ step ∷ [] = more ∙ ap (λ (h : List Step). h ++ step ∷ []) was in
-    let allowed = legal_last r.script r.steps steps step is after.history in
-    subst (λ m. LeavesLessInAll r.script.topology (machine r) m step) (sym (ap (at r.script) is ∙ run-more r.script _ r.steps step))
-    (all_shorter r.script (machine r) (facts r old stands).holds step allowed)
+-- a step that tells its commit
+pub record IsOwn (r : Run) (step : Step) (k : ℕ) : Type 0 where
+  pub is_legal : legal r.script (machine r) step ≡ true
+  pub within : k < length (machine r).device.commits
+  pub of : commit_of_step (machine r) step ≡ Some k
+
+pub own_step : {r : Run} {st : Stores} (step : Step) (k : ℕ) → Stands r st → commit_of_tail_step step ≡ Some k
+    → commit_of_step (machine r) step ≡ Some k → legal r.script (machine r) step ≡ true → IsOwn r step k
+own_step {r} {st} step k stands told of is =
+    record { is_legal = is; within = legal_below r.script (machine r) step k st.tracker told is stands.stores.tracker; of = of }
+
+-- all holds after a step, where there is memory for what the tails have left then
+step_holds : {r w : Run} {old new : Stores} {was room : ℕ} (step : Step) → StandsWithSpare r old was → Stands w new
+    → w ≡ gains r (step ∷ []) → (LeavesLessInAll r.script.topology (machine r) (machine (gains r (step ∷ []))) step
+    → HasSpare (gains r (step ∷ [])) room new.latches.room) → StandsWithSpare w new room
+step_holds {r} {new = new} {room = room} step holds after more spared =
+    let later : Stands (gains r (step ∷ [])) new = subst (λ (x : Run). Stands x new) more after in
+    let allowed = legal_last r.script r.steps (r.steps ++ step ∷ []) step refl later.history in
+    let less = subst (λ (m : Machine). LeavesLessInAll r.script.topology (machine r) m step) (sym (run-more r.script _ r.steps step))
+    (all_shorter r.script (machine r) (facts holds.stands).holds step allowed) in
+    subst (λ (x : Run). StandsWithSpare x new room) (sym more) (record { stands = later; spare = spared less })
 
 -- a step that is of no tail
-pub other_spared : (r : Run) (old new : Stores) (step : Step) (before steps : List Step) (was made room latches : ℕ) → Stands r old
-    → Stands (with_steps r steps) new → before ≡ r.steps → steps ≡ before ++ step ∷ [] → is_swap step ≡ false
-    → HasSpare r was latches → 31 * length old.tracker.tails.slots < made → made ≤ room + 1 → HasSpare (with_steps r steps) room latches
-other_spared r old new step before steps was made room latches stands after same more other spare enough pushed =
-    let less = (shorter r old new step before steps stands after same more).of_others other in
-    let few = few_left r old stands in
-    let l = spare.latches in
-    record { steps = omega (arith, less, few, enough, pushed); latches = omega (arith, less, l) }
+pub other_holds : {r w : Run} {old new : Stores} {was room : ℕ} (step : Step) (made : ℕ) → StandsWithSpare r old was → Stands w new
+    → w ≡ gains r (step ∷ []) → is_swap step ≡ false → new.latches.room ≡ old.latches.room
+    → 31 * length old.tracker.tails.slots < made → made ≤ room + 1 → StandsWithSpare w new room
+other_holds {r} {old = old} step made holds after more other same enough pushed = step_holds step holds after more (λ leaves.
+    let less = leaves.of_others other in
+    let few = few_left holds.stands in
+    let l = holds.spare.latches in
+    record { steps = omega (arith, less, few, enough, pushed); latches = omega (arith, less, l, same) })
 
 -- a step of a tail, with or without a latch
-pub tail_spared : (r : Run) (old new : Stores) (step : Step) (k : ℕ) (before steps : List Step) (made shown room latches : ℕ) → Stands r old
-    → Stands (with_steps r steps) new → before ≡ r.steps → steps ≡ before ++ step ∷ []
-    → k < length (machine r).device.commits → commit_of_step (machine r) step ≡ Some k → HasSpare r made shown → made ≤ room + 1 → shown
-    ≤ latches + 1 → HasSpare (with_steps r steps) room latches
-tail_spared r old new step k before steps made shown room latches stands after same more within of spare pushed recorded =
-    let less = (shorter r old new step before steps stands after same more).of_tail k within of in
-    let s = spare.steps in
-    let l = spare.latches in
-    record { steps = omega (arith, less, s, pushed); latches = omega (arith, less, l, recorded) }
+pub own_holds : {r w : Run} {old new : Stores} {made room : ℕ} {step : Step} {k : ℕ} → StandsWithSpare r old made → Stands w new
+    → w ≡ gains r (step ∷ []) → IsOwn r step k → made ≤ room + 1 → old.latches.room ≤ new.latches.room + 1 → StandsWithSpare w new room
+own_holds {step} {k} holds after more own pushed recorded = step_holds step holds after more (λ leaves.
+    let less = leaves.of_tail k own.within own.of in
+    let s = holds.spare.steps in
+    let l = holds.spare.latches in
+    record { steps = omega (arith, less, s, pushed); latches = omega (arith, less, l, recorded) })
 
 -- a swap
-pub swap_spared : (r : Run) (old new : Stores) (step : Step) (before steps : List Step) (made room latches : ℕ) → Stands r old
-    → Stands (with_steps r steps) new → before ≡ r.steps → steps ≡ before ++ step ∷ []
-    → 31 * length old.tracker.tails.slots + 32 ≤ made → made ≤ room + 1 → 31 * length old.tracker.tails.slots + 31 ≤ latches
-    → HasSpare (with_steps r steps) room latches
-swap_spared r old new step before steps made room latches stands after same more enough pushed shown =
-    let less = (shorter r old new step before steps stands after same more).of_swap in
-    let few = few_left r old stands in
-    record { steps = omega (arith, less, few, enough, pushed); latches = omega (arith, less, few, shown) }
+pub swap_holds : {r w : Run} {old new : Stores} {was room : ℕ} (step : Step) (made : ℕ) → StandsWithSpare r old was → Stands w new
+    → w ≡ gains r (step ∷ []) → 31 * length old.tracker.tails.slots + 32 ≤ made → made ≤ room + 1
+    → 31 * length old.tracker.tails.slots + 31 ≤ new.latches.room → StandsWithSpare w new room
+swap_holds {r} {old = old} step made holds after more enough pushed shown = step_holds step holds after more (λ leaves.
+    let less = leaves.of_swap in
+    let few = few_left holds.stands in
+    record { steps = omega (arith, less, few, enough, pushed); latches = omega (arith, less, few, shown) })
 
 -- no step, with more memory
-pub still_spared : (r : Run) (steps : List Step) (was room shown latches : ℕ) → steps ≡ r.steps → HasSpare r was shown → was ≤ room → shown
-    ≤ latches → HasSpare (with_steps r steps) room latches
-still_spared r steps was room shown latches same spare more longer =
+pub still_spared : {r : Run} {steps : List Step} {was room shown latches : ℕ} → steps ≡ r.steps → HasSpare r was shown → was ≤ room
+    → shown ≤ latches → HasSpare (with_steps r steps) room latches
+still_spared {r} {room = room} {latches = latches} same spare more longer =
     subst (λ h. HasSpare (with_steps r h) room latches) (sym same)
     (let s = spare.steps in let l = spare.latches in record { steps = omega (arith, s, more); latches = omega (arith, l, longer) })
 
 pub same_le : (n : ℕ) → n ≤ n
 same_le n = omega arith
 
-pub then_le : (a b c : ℕ) → a ≤ b → b ≤ c → a ≤ c
-then_le a b c first next = omega (arith, first, next)
-
 -- the stores stand where latches have other memory
-pub with_latches : (r : Run) (st : Stores) (shown : Logged Latch) → Stands r st → shown.items ≡ st.latches.items
+pub with_latches : {r : Run} {st : Stores} (shown : Logged Latch) → Stands r st → shown.items ≡ st.latches.items
     → Stands r (record st { latches = shown })
-with_latches r st shown stands is = record {
+with_latches {r} {st} shown stands is = record {
   formed = stands.formed;
   history = stands.history;
-  stores = told_anew r.script (machine r) st (machine r).contexts (machine r).records.replies (machine r).stalled st.clients st.replies
+  stores = told_anew (machine r).records.replies (machine r).stalled st.replies
       shown st.freed st.stalled stands.stores.clients
       (record {
         accepted = stands.stores.recorded.accepted;
@@ -168,55 +176,22 @@ with_latches r st shown stands is = record {
   stored = stands.stored;
 }
 
--- all holds where nothing but memory for steps was taken
-pub still_holds : (r : Run) (st : Stores) (steps : List Step) (was room : ℕ) → StandsWithSpare r st was → steps ≡ r.steps → was ≤ room
-    → StandsWithSpare (with_steps r steps) st room
-still_holds r st steps was room holds same more =
-    subst (λ h. StandsWithSpare (with_steps r h) st room) (sym same)
-    (record {
-      stands = holds.stands;
-      spare = (let s = holds.spare.steps
-          in record { steps = omega (arith, s, more); latches = holds.spare.latches });
-    })
-
 -- there is memory for a step of a tail that is legal, and for its latch
 pub record HasRoom (room latches : ℕ) : Type 0 where
   pub step : 0 < room
   pub latch : 0 < latches
 
-pub tail_room : (r : Run) (st : Stores) (step : Step) (k room latches : ℕ) → Stands r st → legal r.script (machine r) step ≡ true → k
-    < length (machine r).device.commits → commit_of_step (machine r) step ≡ Some k → HasSpare r room latches → HasRoom room latches
-tail_room r st step k room latches stands is within of spare =
-    let less = (all_shorter r.script (machine r) (facts r st stands).holds step is).of_tail k within of in
-    let s = spare.steps in
-    let l = spare.latches in
+pub own_room : {r : Run} {st : Stores} {room : ℕ} {step : Step} {k : ℕ} → StandsWithSpare r st room → IsOwn r step k
+    → HasRoom room st.latches.room
+own_room {r} {step} {k} holds own =
+    let less = (all_shorter r.script (machine r) (facts holds.stands).holds step own.is_legal).of_tail k own.within own.of in
+    let s = holds.spare.steps in
+    let l = holds.spare.latches in
     record { step = omega (arith, less, s); latch = omega (arith, less, l) }
 
--- a step that tells its commit
-pub record IsOwn (r : Run) (step : Step) (k : ℕ) : Type 0 where
-  pub is_legal : legal r.script (machine r) step ≡ true
-  pub within : k < length (machine r).device.commits
-  pub of : commit_of_step (machine r) step ≡ Some k
-
-pub own_step : (r : Run) (st : Stores) (step : Step) (k : ℕ) → Stands r st → commit_of_tail_step step ≡ Some k
-    → commit_of_step (machine r) step ≡ Some k → legal r.script (machine r) step ≡ true → IsOwn r step k
-own_step r st step k stands told of is =
-    record { is_legal = is; within = legal_below r.script (machine r) step k st.tracker told is stands.stores.tracker; of = of }
-
-pub own_room : (r : Run) (st : Stores) (step : Step) (k room latches : ℕ) → Stands r st → IsOwn r step k → HasSpare r room latches
-    → HasRoom room latches
-own_room r st step k room latches stands own spare = tail_room r st step k room latches stands own.is_legal own.within own.of spare
-
--- it takes one place, and no latch
-pub own_spared : (r : Run) (old new : Stores) (step : Step) (k : ℕ) (steps : List Step) (made shown room : ℕ) → Stands r old
-    → Stands (with_steps r steps) new → steps ≡ r.steps ++ step ∷ [] → IsOwn r step k → HasSpare r made shown → made ≤ room + 1
-    → HasSpare (with_steps r steps) room shown
-own_spared r old new step k steps made shown room stands after more own spare pushed = tail_spared r old new step k r.steps steps made shown
-    room shown stands after refl more own.within own.of spare pushed (omega arith)
-
 -- a decision is no swap: it leaves the commits
-pub decision_other : (r : Run) (client : ℕ) (step : Step) (reply : Reply) → Decides r client step reply → is_swap step ≡ false
-decision_other r client step reply decides =
+pub decision_other : {r : Run} {client : ℕ} {step : Step} {reply : Reply} → Decides r client step reply → is_swap step ≡ false
+decision_other {r} {step = step} decides =
     let many : length (machine r).device.commits ≡ (if is_swap step then suc (length (machine r).device.commits)
     else length (machine r).device.commits) =
     sym (ap (λ (m : Machine). length m.device.commits) decides.does) ∙ commits_counted r.script (machine r) step decides.legal in

@@ -107,7 +107,7 @@ module _ (t : Topology) (m n : Machine) (client label buffer id : ℕ) (A : IsAd
   taken_stored =
       added_stored t m n client label buffer id A numbered ends made.fbs (fbs_taken new id) S
       (ap (λ xs. value_with_id xs m.device.world.next_id) taken_is
-      ∙ with_this new m.device.world.next_id (with_id m.device.world.next_id) (taken (with_id m.device.world.next_id)) found)
+      ∙ with_this new m.device.world.next_id (taken (with_id m.device.world.next_id)) found)
       (λ at apart.
       ap (λ xs. value_with_id xs at) taken_is
       ∙ with_other new m.device.world.next_id at (taken (with_id m.device.world.next_id)) apart
@@ -116,10 +116,10 @@ module _ (t : Topology) (m n : Machine) (client label buffer id : ℕ) (A : IsAd
 
 -- one that was closed has given the reference of being open back
 pub closed_is : (t : Topology) (m n : Machine) (client label : ℕ) (C : IsClosed t m n client label) (made : Made)
-    (new : List (Slot Framebuffer)) → m.device.world.things ≡ made.things
+    {new : List (Slot Framebuffer)} → m.device.world.things ≡ made.things
     → new ≡ fbs_without made client (thing_labelled made.things label) (close_refusal client (thing_labelled made.things label))
     → new ≡ fbs_closed made.fbs client C.thing.id
-closed_is t m n client label C made new things is =
+closed_is t m n client label C made things is =
     is ∙ ap (λ o. fbs_without made client o (close_refusal client o)) (ap (λ all. thing_labelled all label) (sym things) ∙ C.was)
     ∙ ap (fbs_without made client (Some C.thing)) C.may
 
@@ -197,10 +197,11 @@ pub first_held : (things : List Thing) (fbs : List (Slot Framebuffer)) (id : ℕ
 first_held things fbs id ids rest same held = (subst (AreHeld things fbs) same held).0
 
 -- the stores tell the same of a machine whatever references there are
-pub tells_still : (t : Topology) (m : Machine) (first made : Made) (present : Duplicates) (registers : RegisterFile) (tracker : Tracking)
-    (crtcs : ℕ) → OnlyFbs first made → TellNeeds t m first present registers tracker crtcs
+pub tells_still : {t : Topology} {m : Machine} {first : Made} (made : Made) {present : Duplicates} {registers : RegisterFile} {tracker :
+    Tracking}
+    {crtcs : ℕ} → OnlyFbs first made → TellNeeds t m first present registers tracker crtcs
     → TellNeeds t m made present registers tracker crtcs
-tells_still t m first made present registers tracker crtcs only tell =
+tells_still {t} {m} made {present} {registers} {tracker} {crtcs} only tell =
     subst (λ z. TellNeeds t m z present registers tracker crtcs) (sym only)
     (record {
       device = tell.device;

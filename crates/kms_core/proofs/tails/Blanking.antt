@@ -1,10 +1,9 @@
 -- A CRTC has a vblank.
 use Rattle.std.proofs.Common.{◌≡◌, ℕ, ◌+◌, ◌<◌, ◌≤◌, Bool, true, false, List, [], ◌∷◌, ◌++◌, length, length-append, reverse, Option, Some}
 use Rattle.std.proofs.Common.{None, inl, inr, refl, sym, ap, ◌∙◌, subst, arith}
-use Rattle.std.specs.Prelude.{if◌then◌else◌, is_some, not, slice_index_or, slice_set}
-use Rattle.std.proofs.lemmas.Bool.{and_parts, false_from_ne_true, ltb-true}
+use Rattle.std.specs.Prelude.{if◌then◌else◌, is_some, slice_index_or, slice_set}
+use Rattle.std.proofs.lemmas.Bool.{false_from_ne_true, ltb-true}
 use Rattle.std.proofs.lemmas.Bool.Decides.{eqb_tells}
-use Rattle.std.proofs.lemmas.List.{get_or_default}
 use Rattle.kms_model.specs.declared.objects.Kind.TheVariants.{Crtc}
 use Rattle.kms_model.specs.declared.objects.Topology.{Topology}
 use Rattle.kms_model.specs.declared.pictures.Picture.{Picture}
@@ -19,7 +18,7 @@ use Rattle.kms_model.specs.Machine.Effects.{counts_vblank, next}
 use Rattle.kms_model.specs.Machine.Histories.{legal}
 use Rattle.kms_model.specs.Machine.Registers.{read}
 use Rattle.kms_model.specs.Machine.State.{DeviceState, Machine, count_at, go_at}
-use Rattle.kms_model.specs.Machine.Steps.{is_crtc_of, may}
+use Rattle.kms_model.proofs.Guards.{legal_guards}
 use Rattle.kms_model.proofs.Items.{IsIn}
 use Rattle.kms_model.proofs.KindsOfIds.{index_of-object}
 use Rattle.kms_model.proofs.TouchedLemmas.{few_objects}
@@ -42,7 +41,7 @@ use Rattle.kms_track.proofs.Marking.{latched_stands}
 use Rattle.kms_track.proofs.StepLemmas as tracker_follows
 use Rattle.kms_core.specs.Latching.{IsLatching, LatchIsTold, MayBlank, goes_at}
 use Rattle.kms_core.specs.Logs.{Logged}
-use Rattle.kms_core.specs.Run.{Run, machine}
+use Rattle.kms_core.specs.Run.{Run, gains, machine}
 use Rattle.kms_core.specs.Stands.{AreGoing, Stores, Stands, queue_of}
 use Rattle.kms_core.proofs.stores.CommitStates.{commits_sound, facts}
 use Rattle.kms_core.specs.Freeing.{AreAllOf}
@@ -60,25 +59,19 @@ use Rattle.kms_core.proofs.tails.Latched.{latches_signalled, more_signalled, sam
 
 -- What is asked
 
-pub blanks_legal : (r v : Run) (crtc : ℕ) → r ≡ v → MayBlank v crtc → legal r.script (machine r) (step.Vblank Crtc crtc) ≡ true
-blanks_legal r v crtc same asked = subst (λ (w : Run). MayBlank w crtc) (sym same) asked
-
-pub blanks_low : (r v : Run) (st : Stores) (crtc : ℕ) → Stands r st → r ≡ v → MayBlank v crtc → crtc < 4
-unfolding legal may
-blanks_low r v st crtc stands same asked =
+pub blanks_low : {r : Run} {st : Stores} (crtc : ℕ) → Stands r st → MayBlank r crtc → crtc < 4
+blanks_low {r} crtc stands asked =
     let t = r.script.topology in
-    let m = machine r in
-    let is = blanks_legal r v crtc same asked in
-    let parts = and_parts (is_crtc_of t Crtc crtc) _ (and_parts (not m.stalled) _ is).1 in
+    let g = legal_guards r.script (machine r) (step.Vblank Crtc crtc) asked in
     let few = few_objects t stands.formed.device in
-    let there : crtc < count_of t Crtc = ltb-true crtc (count_of t Crtc) parts.0 in
+    let there : crtc < count_of t Crtc = ltb-true crtc (count_of t Crtc) g.there in
     omega (arith, there, few.crtcs)
 
 -- the count fits
-pub count_fits : (r : Run) (st : Stores) (crtc : ℕ) (step : Step) (before steps : List Step) → Stands r st → before ≡ r.steps → steps
+pub count_fits : {r : Run} {st : Stores} (crtc : ℕ) (step : Step) (before steps : List Step) → Stands r st → before ≡ r.steps → steps
     ≡ before ++ step ∷ [] → length steps ≤ 18446744073709551615
     → blanking_count st.registers (object_id Crtc crtc) < 18446744073709551615
-count_fits r st crtc step before steps stands is more fits =
+count_fits {r} crtc step before steps stands is more fits =
     let few = (numbers_fit r.script r.steps stands.formed stands.history).counts (object_id Crtc crtc) in
     let same = stands.stores.registers.counted crtc in
     let long : length steps ≡ length r.steps + 1 = ap length more ∙ length-append before (step ∷ []) ∙ ap (λ (h : List Step). length h + 1)
@@ -99,25 +92,19 @@ picture_from None p q is = absurd cc
 picture_from (Some k) p q is = cc
 
 -- whether it goes is told by the commits that have GO
-pub goes_is : (r v : Run) (st : Stores) (crtc : ℕ) (o : Option ℕ) → Stands r st → r ≡ v → crtc < 4 → slice_index_or st.goes crtc None ≡ o
-    → is_some o ≡ goes_at v crtc
-goes_is r v st crtc o stands same low is = ap (λ (p : Option ℕ). is_some p) (sym (stands.stores.going.go crtc low ∙ is)) ∙ ap
-    (λ (w : Run). goes_at w crtc) same
+pub goes_is : {r : Run} {st : Stores} (crtc : ℕ) {o : Option ℕ} → Stands r st → crtc < 4 → slice_index_or st.goes crtc None ≡ o
+    → is_some o ≡ goes_at r crtc
+goes_is crtc stands low is = ap (λ (p : Option ℕ). is_some p) (sym (stands.stores.going.go crtc low ∙ is))
 
 -- one that goes has a picture
-pub has_picture : (r : Run) (st : Stores) (k crtc : ℕ) → Stands r st → crtc < 4 → slice_index_or st.goes crtc None ≡ Some k
+pub has_picture : {r : Run} {st : Stores} (k crtc : ℕ) → Stands r st → crtc < 4 → slice_index_or st.goes crtc None ≡ Some k
     → TellsBlank st.registers crtc None → ⊥
-has_picture r st k crtc stands low is tells =
+has_picture {r} k crtc stands low is tells =
     let none : go_at (machine r).device (object_id Crtc crtc)
     ≡ None = none_from (go_at (machine r).device (object_id Crtc crtc)) _
     (tells r.script.topology (machine r).device stands.stores.registers) in
     let both : Some k ≡ None = sym (stands.stores.going.go crtc low ∙ is) ∙ none in
     absurd cc
-
--- an item of the list, by any default
-pub at_goes : (r : Run) (st : Stores) (crtc : ℕ) (e : Option ℕ) → Stands r st → crtc < 4 → slice_index_or st.goes crtc None
-    ≡ slice_index_or st.goes crtc e
-at_goes r st crtc e stands low = let size = stands.stores.going.size in get_or_default st.goes crtc None e (omega (arith, size, low))
 
 -- Without GO
 
@@ -158,20 +145,18 @@ going_none d n goes crtc is none stand = record {
       ];
 }
 
-pub blanks_without : (r v : Run) (st : Stores) (crtc : ℕ) (shown : Logged Latch) (new : RegisterFile) (before steps : List Step)
-    → Stands r st → r ≡ v → MayBlank v crtc → before ≡ r.steps → steps ≡ before ++ step.Vblank Crtc crtc ∷ []
-    → shown.items ≡ st.latches.items → Blanks st.registers new crtc → slice_index_or st.goes crtc None ≡ None
-    → Stands (record { script = r.script; steps = steps }) (record st { latches = shown; registers = new })
-blanks_without r v st crtc shown new before steps stands same asked was more is blanks off =
+pub blanks_without : {r w : Run} {st : Stores} {shown : Logged Latch} {new : RegisterFile} (crtc : ℕ) → Stands r st → MayBlank r crtc
+    → w ≡ gains r (step.Vblank Crtc crtc ∷ []) → shown.items ≡ st.latches.items → Blanks st.registers new crtc
+    → slice_index_or st.goes crtc None ≡ None → Stands w (record st { latches = shown; registers = new })
+blanks_without {r} {st = st} {shown = shown} {new = new} crtc stands asked more is blanks off =
     let s = r.script in
     let m = machine r in
     let S = stands.stores in
-    let none = S.going.go crtc (blanks_low r v st crtc stands same asked) ∙ off in
+    let none = S.going.go crtc (blanks_low crtc stands asked) ∙ off in
     let B = blank_without s m crtc none in
     let L = signals_follow.vblank_follows s m crtc none in
-    goes_same r st (record st { latches = shown; registers = new }) (step.Vblank Crtc crtc) B.needs refl refl steps
-    (more ∙ ap (λ (xs : List Step). xs ++ step.Vblank Crtc crtc ∷ []) was) stands (blanks_legal r v crtc same asked)
-    (stands_shown s m (next s m (step.Vblank Crtc crtc)) st shown st.fences st.queues st.tracker new st.goes
+    goes_same (step.Vblank Crtc crtc) B.needs refl refl stands more asked
+    (stands_shown (next s m (step.Vblank Crtc crtc)) shown st.fences st.queues st.tracker new st.goes
     (record {
       same = B.same;
       recorded = is ∙ S.recorded.latched ∙ ap reverse (sym B.latches);
@@ -199,12 +184,12 @@ pub record BlanksFor (r : Run) (k crtc : ℕ) : Type 0 where
   pub within : k < length (machine r).device.commits
   pub kept : has_number (machine r).device.marks.cleaned k ≡ false
 
-pub blanks_for : (r v : Run) (st : Stores) (k crtc : ℕ) → Stands r st → r ≡ v → MayBlank v crtc → slice_index_or st.goes crtc None ≡ Some k
+pub blanks_for : {r : Run} {st : Stores} {k : ℕ} (crtc : ℕ) → Stands r st → MayBlank r crtc → slice_index_or st.goes crtc None ≡ Some k
     → BlanksFor r k crtc
-blanks_for r v st k crtc stands same asked is =
+blanks_for {r} {st} {k} crtc stands asked is =
     let c = object_id Crtc crtc in
-    let low = blanks_low r v st crtc stands same asked in
-    let T = (facts r st stands).holds.tail in
+    let low = blanks_low crtc stands asked in
+    let T = (facts stands).holds.tail in
     let go = stands.stores.going.go crtc low ∙ is in
     let pending = T.marks.go_is k c go in
     let f = T.marks.flushed k c pending.flushed in
@@ -220,23 +205,22 @@ blanks_for r v st k crtc stands same asked is =
       kept = false_from_ne_true _ (λ yes. both_bools _ (T.marks.cleaned k c yes f.is_crtc f.names) pending.unlatched);
     }
 
-blank_tail : (r : Run) (st : Stores) (k crtc : ℕ) → Stands r st → BlanksFor r k crtc
+blank_tail : {r : Run} {st : Stores} {k crtc : ℕ} → Stands r st → BlanksFor r k crtc
     → FoundTail r.script.topology (machine r).device.commits (machine r).device.marks (machine r).records.latches st.tracker k
-blank_tail r st k crtc stands B = found_tail r.script.topology (machine r).device.commits (machine r).device.marks
-    (machine r).records.latches st.tracker k B.within B.kept stands.stores.tracker
+blank_tail {r} {st} {k} stands B = found_tail k B.within B.kept stands.stores.tracker
 
-pub blank_latches : (r v : Run) (st : Stores) (k crtc count : ℕ) (picture : Picture) → Stands r st → r ≡ v → MayBlank v crtc
+pub blank_latches : {r : Run} {st : Stores} (k crtc count : ℕ) (picture : Picture) → Stands r st → MayBlank r crtc
     → slice_index_or st.goes crtc None ≡ Some k
     → IsLatching st.tracker st.queues (record { crtc = crtc; commit = k; count = count; picture = picture })
-blank_latches r v st k crtc count picture stands same asked is =
+blank_latches {r} {st} k crtc count picture stands asked is =
     let s = r.script in
     let m = machine r in
-    let B = blanks_for r v st k crtc stands same asked is in
-    let F = facts r st stands in
-    let C = commits_sound s r.steps (plain-from s stands.formed) stands.history k B.within in
+    let B = blanks_for crtc stands asked is in
+    let F = facts stands in
+    let C = commits_sound r.steps (plain-from s stands.formed) stands.history k B.within in
     let l : Latch = record { crtc = crtc; commit = k; count = count; picture = picture } in
-    is_latching s.topology m.device.commits m.device.marks m.records.latches m.events st.tracker st.queues (length s.clients) l
-    (blank_tail r st k crtc stands B) stands.stores.queues C.low C.high
+    is_latching l
+    (blank_tail stands B) stands.stores.queues C.low C.high
     (reserved_some F.holds.tail k (object_id Crtc crtc) count l B.is_crtc B.flushed B.unlatched refl refl refl m.events F.events)
 
 record IsBlankFor (s : Script) (m : Machine) (k crtc : ℕ) (n : Machine) : Type 0 where
@@ -272,15 +256,14 @@ pub record HasBlanked (st : Stores) (k crtc : ℕ) (count : ℕ) (picture : Pict
       (record { crtc = crtc; commit = k; count = count; picture = picture })
   pub recorded : shown ≡ st.latches.items ++ record { crtc = crtc; commit = k; count = count; picture = picture } ∷ []
 
-pub blanks_with : (r v : Run) (st : Stores) (k crtc count : ℕ) (picture : Picture) (new : RegisterFile) (tracker : Tracking)
-    (fences : FenceSet) (queues : List Queue) (shown : Logged Latch) (steps : List Step)
-    → Stands r st → r ≡ v → MayBlank v crtc → steps ≡ r.steps ++ step.Vblank Crtc crtc ∷ []
+pub blanks_with : {r w : Run} {st : Stores} (k crtc count : ℕ) (picture : Picture) (new : RegisterFile) (tracker : Tracking)
+    (fences : FenceSet) (queues : List Queue) (shown : Logged Latch)
+    → Stands r st → MayBlank r crtc → w ≡ gains r (step.Vblank Crtc crtc ∷ [])
     → HasBlanked st k crtc count picture new tracker fences queues shown.items
     → (ids : List ℕ) (freed : Reserved (ℕ × ℕ)) (made : Made)
     → AreAllOf ids (λ id. picture_names id (decoded_picture r.script.topology (machine r).device.live (object_id Crtc crtc)))
-    → Frees st.made made st.present new tracker r.script.topology.crtcs ids st.freed freed
-    → Stands (record { script = r.script; steps = steps })
-    (record st {
+    → {crtcs : ℕ} → crtcs ≡ r.script.topology.crtcs → Frees st.made made st.present new tracker crtcs ids st.freed freed
+    → Stands w (record st {
       latches = shown;
       fences = fences;
       queues = queues;
@@ -290,13 +273,13 @@ pub blanks_with : (r v : Run) (st : Stores) (k crtc count : ℕ) (picture : Pict
       freed = freed;
       made = made;
     })
-blanks_with r v st k crtc count picture new tracker fences queues shown steps stands same asked more has ids freed made all frees =
+blanks_with {r} {st = st} k crtc count picture new tracker fences queues shown stands asked more has ids freed made all crtcs_are frees =
     let s = r.script in
     let t = s.topology in
     let m = machine r in
     let d = m.device in
     let c = object_id Crtc crtc in
-    let B = blanks_for r v st k crtc stands same asked has.go in
+    let B = blanks_for crtc stands asked has.go in
     let S = stands.stores in
     let n = next s m (step.Vblank Crtc crtc) in
     let O = blank_with s m k crtc B.go in
@@ -310,22 +293,14 @@ blanks_with r v st k crtc count picture new tracker fences queues shown steps st
     let one : n.records.latches ≡ l ∷ m.records.latches =
     registers_follow.vblank_recorded s m k crtc B.go ∙
     (λ i. record { crtc = sym index_is i; commit = k; count = sym count_is i; picture = sym picture_is i } ∷ m.records.latches) in
-    goes_latching r st (record st {
-      latches = shown;
-      fences = fences;
-      queues = queues;
-      tracker = tracker;
-      registers = new;
-      goes = slice_set st.goes crtc None;
-    }) (step.Vblank Crtc crtc) c ids freed made
-    (latches_by s m n c l
-    (changes s m (step.Vblank Crtc crtc) (blanks_legal r v crtc same asked)) index_is B.is_crtc one) all frees refl steps more stands
-    (blanks_legal r v crtc same asked)
-    (latched_shown r n st (count_at d c + 1) d.marks st.tracker tracker fences queues shown l new (slice_set st.goes crtc None)
+    goes_latching (step.Vblank Crtc crtc) freed made
+    (latches_by l
+    (changes s m (step.Vblank Crtc crtc) asked) index_is B.is_crtc one) all (rw crtcs_are at frees) refl stands more asked
+    (latched_shown n (count_at d c + 1) d.marks st.tracker tracker fences queues shown l new (slice_set st.goes crtc None)
     (record {
       low = B.low;
       within = B.within;
-      found = blank_tail r st k crtc stands B;
+      found = blank_tail stands B;
       signals = signals_follow.vblank_with_go_follows s m k crtc B.go;
       same = O.same;
       signalled = O.signalled;
@@ -336,14 +311,14 @@ blanks_with r v st k crtc count picture new tracker fences queues shown steps st
     })
     (rw has.told.tracker (tracker_follows.vblank_with_go_follows s m k crtc st.tracker B.within B.low B.go S.tracker))
     (registers_follow.vblank_follows s m crtc st.registers new S.registers has.blanks)
-    (going_set d n.device st.goes crtc None O.go B.low S.going) stands)
+    (going_set n.device crtc None O.go B.low S.going) stands)
 
 -- the commits after it are few
-pub few_blanked : (r v : Run) (st : Stores) (k crtc : ℕ) → Stands r st → r ≡ v → MayBlank v crtc → slice_index_or st.goes crtc None ≡ Some k
+pub few_blanked : {r : Run} {st : Stores} (k crtc : ℕ) → Stands r st → MayBlank r crtc → slice_index_or st.goes crtc None ≡ Some k
     → AreFewCommits (marked st.tracker k (mark.Latched crtc))
-few_blanked r v st k crtc stands same asked is =
+few_blanked {r} {st} k crtc stands asked is =
     let m = machine r in
-    let B = blanks_for r v st k crtc stands same asked is in
+    let B = blanks_for crtc stands asked is in
     let fit = (numbers_fit r.script r.steps stands.formed stands.history).commits in
     let l : Latch = record { crtc = crtc; commit = k; count = 0; picture = Off } in
     record {
@@ -355,8 +330,3 @@ few_blanked r v st k crtc stands same asked is =
           stands.stores.tracker l refl B.low;
       few = omega (arith, fit);
     }
-
--- a CRTC that blanks is one of the device
-pub blanks_crtc : (r v : Run) (st : Stores) (k crtc : ℕ) → Stands r st → r ≡ v → MayBlank v crtc → slice_index_or st.goes crtc None ≡ Some k
-    → IsIn (object_id Crtc crtc) (ids_of r.script.topology Crtc)
-blanks_crtc r v st k crtc stands same asked is = (blanks_for r v st k crtc stands same asked is).is_crtc

@@ -50,9 +50,9 @@ pub record SameParts (old new : Machine) : Type 0 where
   pub replies : new.records.replies ≡ old.records.replies
   pub stalled : new.stalled ≡ old.stalled
 
-same_signals : (m n : Machine) (fence : Option ℕ) → SameParts m n → SameParts m (signals n fence)
-same_signals m n None S = S
-same_signals m n (Some id) S = record {
+same_signals : {m n : Machine} (fence : Option ℕ) → SameParts m n → SameParts m (signals n fence)
+same_signals None S = S
+same_signals (Some id) S = record {
   contexts = S.contexts;
   world = S.world;
   commits = S.commits;
@@ -62,9 +62,9 @@ same_signals m n (Some id) S = record {
   stalled = S.stalled;
 }
 
-pub same_either : (b : Bool) (m x y : Machine) → SameParts m x → SameParts m y → SameParts m (if b then x else y)
-same_either true m x y first second = first
-same_either false m x y first second = second
+pub same_either : (b : Bool) {m : Machine} (x : Machine) {y : Machine} → SameParts m x → SameParts m y → SameParts m (if b then x else y)
+same_either true x first second = first
+same_either false x first second = second
 
 pub same_latches : (t : Topology) (m n : Machine) (k crtc count : ℕ) → SameParts m n → SameParts m (latches t n k crtc count)
 unfolding latches
@@ -78,8 +78,8 @@ same_latches t m n k crtc count S =
       replies = S.replies;
       stalled = S.stalled;
     } in
-    same_signals m (delivers_if t (latches_picture t n k crtc count) k crtc count) (out_fence_of t n.device.commits k crtc)
-    (same_either (asks_event t n.device.commits k) m _ (latches_picture t n k crtc count)
+    same_signals (out_fence_of t n.device.commits k crtc)
+    (same_either (asks_event t n.device.commits k) _
     (record { contexts = S.contexts; world = S.world; commits = S.commits; journal = S.journal; replies = S.replies; stalled = S.stalled })
     shown)
 
@@ -130,7 +130,7 @@ pub record AreShown (s : Script) (m n : Machine) (latched : Logged Latch) (fence
   pub written : StandsForDevice s.topology n.device registers
   pub going : AreGoing n.device goes
 
-pub stands_shown : (s : Script) (m n : Machine) (st : Stores) (latched : Logged Latch) (fences : FenceSet) (queues : List Queue)
+pub stands_shown : {s : Script} {m : Machine} (n : Machine) {st : Stores} (latched : Logged Latch) (fences : FenceSet) (queues : List Queue)
     (tracker : Tracking) (registers : RegisterFile) (goes : List (Option ℕ))
     → AreShown s m n latched fences queues tracker registers goes
     → ((id : ℕ) → is_made st.fences id ≡ true → is_made fences id ≡ true) → StandsAt s m st
@@ -142,7 +142,7 @@ pub stands_shown : (s : Script) (m n : Machine) (st : Stores) (latched : Logged 
       registers = registers;
       goes = goes;
     })
-stands_shown s m n st latched fences queues tracker registers goes shown more stands =
+stands_shown n latched fences queues tracker registers goes shown more stands =
     let S = shown.same in
     record {
       clients = rw S.contexts stands.clients;
@@ -165,11 +165,11 @@ stands_shown s m n st latched fences queues tracker registers goes shown more st
 
 -- The fences
 
-pub latched_fenced : (m : Machine) (fence : Option ℕ) (fences : FenceSet) → ((id : ℕ) → fence ≡ Some id → is_made fences id ≡ true)
+pub latched_fenced : (m : Machine) (fence : Option ℕ) {fences : FenceSet} → ((id : ℕ) → fence ≡ Some id → is_made fences id ≡ true)
     → AreMadeFences m.device.world m.device.signalled fences
     → AreMadeFences m.device.world (more_signalled m.device.signalled fence) (with_signal fences fence)
-latched_fenced m None fences made fenced = fenced
-latched_fenced m (Some id) fences made fenced = signalled_fenced m.device.world m.device.signalled fences id (made id refl) fenced
+latched_fenced m None made fenced = fenced
+latched_fenced m (Some id) made fenced = signalled_fenced id (made id refl) fenced
 
 pub latched_more : (fences : FenceSet) (fence : Option ℕ) (id : ℕ) → is_made fences id ≡ true → is_made (with_signal fences fence) id ≡ true
 latched_more fences None id made = made
@@ -193,10 +193,10 @@ size_told : (b : Bool) (queues : List Queue) (client : ℕ) (event : Event) → 
 size_told true queues client event = length-set queues (client - 1) (delivers (queue_of queues client) event)
 size_told false queues client event = refl
 
-pub queues_told : (t : Topology) (m n : Machine) (clients k crtc count : ℕ) (queues : List Queue) → LatchesSignals t m n k crtc count → 1
+pub queues_told : {t : Topology} {m n : Machine} {clients k crtc count : ℕ} {queues : List Queue} → LatchesSignals t m n k crtc count → 1
     ≤ client_of t m k → client_of t m k ≤ clients → AreQueues clients m.events queues
     → AreQueues clients n.events (told_if (asks_event t m.device.commits k) (client_of t m k) (event_of t m k crtc count) queues)
-queues_told t m n clients k crtc count queues L low high stand =
+queues_told {t} {m} {n} {k} {crtc} {count} {queues} L low high stand =
     let owner = client_of t m k in
     let event = event_of t m k crtc count in
     let b = asks_event t m.device.commits k in
@@ -216,17 +216,18 @@ queues_told t m n clients k crtc count queues L low high stand =
     }
 
 -- one is delivered
-pub delivered_one : (x : CommitTail) (l : Latch) (queues : List Queue) (q new : Queue) (crtc : ℕ) → x.signals.wants_event ≡ true
+pub delivered_one : (x : CommitTail) (l : Latch) (queues : List Queue) {q new : Queue} {crtc : ℕ} → x.signals.wants_event ≡ true
     → q ≡ queue_of queues x.signals.client → crtc ≡ object_id Crtc l.crtc
     → new ≡ delivers q (record { user_data = x.signals.user_data; sequence = l.count % 4294967296; crtc = crtc })
     → slice_set queues (x.signals.client - 1) new ≡ told_if x.signals.wants_event x.signals.client (event_told x l) queues
-delivered_one x l queues q new crtc wants found id delivered = rw (wants, delivered, found, id) refl
+delivered_one x l queues wants found id delivered = rw (wants, delivered, found, id) refl
 
 -- GO
 
-pub going_set : (d n : DeviceState) (goes : List (Option ℕ)) (crtc : ℕ) (o : Option ℕ) → n.go ≡ (object_id Crtc crtc, o) ∷ d.go → crtc < 4
+pub going_set : {d : DeviceState} (n : DeviceState) {goes : List (Option ℕ)} (crtc : ℕ) (o : Option ℕ) → n.go ≡ (object_id Crtc crtc, o) ∷
+    d.go → crtc < 4
     → AreGoing d goes → AreGoing n (slice_set goes crtc o)
-going_set d n goes crtc o is low stand =
+going_set {d} n {goes} crtc o is low stand =
     let size = stand.size in
     record {
       size = length-set goes crtc o ∙ stand.size;
@@ -251,19 +252,19 @@ pub record FoundTail (t : Topology) (commits : List Commit) (marks : Marks) (lat
   pub found : tail_of u k ≡ Some tail
   pub is : IsTailOf t commits marks latches k tail
 
-pub found_tail : (t : Topology) (commits : List Commit) (marks : Marks) (latches : List Latch) (u : Tracking) (k : ℕ) → k < length commits
+pub found_tail : {t : Topology} {commits : List Commit} {marks : Marks} {latches : List Latch} {u : Tracking} (k : ℕ) → k < length commits
     → has_number marks.cleaned k ≡ false → IsTrackerOf t commits marks latches u
     → FoundTail t commits marks latches u k
-found_tail t commits marks latches u k within kept stand = at (tail_of u k) refl (stand.kept k within) where
+found_tail {t} {commits} {marks} {latches} {u} k within kept stand = at (tail_of u k) refl (stand.kept k within) where
   at : (o : Option CommitTail) → tail_of u k ≡ o → IsKept t commits marks latches k o → FoundTail t commits marks latches u k
   at None is over = absurd (both_bools _ over.0 kept)
   at (Some x) is both = record { tail = x; found = is; is = both.1 }
 
-pub is_latching : (t : Topology) (commits : List Commit) (marks : Marks) (latches : List Latch) (events : Events) (u : Tracking)
-    (queues : List Queue) (clients : ℕ) (l : Latch) → FoundTail t commits marks latches u l.commit
+pub is_latching : {t : Topology} {commits : List Commit} {marks : Marks} {latches : List Latch} {events : Events} {u : Tracking}
+    {queues : List Queue} {clients : ℕ} (l : Latch) → FoundTail t commits marks latches u l.commit
     → AreQueues clients events queues → 1 ≤ (commit_at t commits l.commit).client → (commit_at t commits l.commit).client ≤ clients
     → (asks_event t commits l.commit ≡ true → 1 ≤ reserved_at events (commit_at t commits l.commit).client) → IsLatching u queues l
-is_latching t commits marks latches events u queues clients l f stand low high reserved =
+is_latching {t} {commits} {queues} l f stand low high reserved =
     let x = f.tail in
     let same : x.signals.client ≡ (commit_at t commits l.commit).client = f.is.signals.client in
     let size = stand.size in
@@ -301,21 +302,21 @@ pub record HasLatched (s : Script) (m n : Machine) (st : Stores) (count : ℕ) (
   pub told : LatchIsTold u tracker st.fences fences st.queues queues l
   pub latched : shown.items ≡ st.latches.items ++ l ∷ []
 
-pub latched_shown : (r : Run) (n : Machine) (st : Stores) (count : ℕ) (marks : Marks) (u tracker : Tracking) (fences : FenceSet)
+pub latched_shown : {r : Run} (n : Machine) {st : Stores} (count : ℕ) (marks : Marks) (u tracker : Tracking) (fences : FenceSet)
     (queues : List Queue) (shown : Logged Latch) (l : Latch) (registers : RegisterFile) (goes : List (Option ℕ))
     → HasLatched r.script (machine r) n st count marks u tracker fences queues shown l
     → IsTrackerOf r.script.topology n.device.commits n.device.marks n.records.latches tracker
     → StandsForDevice r.script.topology n.device registers → AreGoing n.device goes → Stands r st
     → StandsAt r.script n (record st
     { latches = shown; fences = fences; queues = queues; tracker = tracker; registers = registers; goes = goes })
-latched_shown r n st count marks u tracker fences queues shown l registers goes H tracked written going stand =
+latched_shown {r} n {st} count marks u tracker fences queues shown l registers goes H tracked written going stand =
     let s = r.script in
     let t = s.topology in
     let m = machine r in
     let k = l.commit in
     let c = object_id Crtc l.crtc in
     let stands = stand.stores in
-    let C = commits_sound s r.steps (plain-from s stand.formed) stand.history k H.within in
+    let C = commits_sound r.steps (plain-from s stand.formed) stand.history k H.within in
     let x = H.found.tail in
     let is = H.found.is in
     let fence = out_fence_of t m.device.commits k c in
@@ -327,7 +328,7 @@ latched_shown r n st count marks u tracker fences queues shown l registers goes 
     (event_of t m k c count) st.queues = H.told.queues x H.found.found
     ∙ (λ i. told_if (is.signals.event i) (is.signals.client i) (event i) st.queues) in
     let made : (id : ℕ) → fence ≡ Some id → is_made st.fences id ≡ true = λ id is. stands.out_fenced k l.crtc id H.within H.low is in
-    stands_shown s m n st shown fences queues tracker registers goes
+    stands_shown n shown fences queues tracker registers goes
     (record {
       same = H.same;
       recorded = H.latched ∙ ap (λ ls. ls ++ l ∷ []) stands.recorded.latched ∙ sym (reverse_more l m.records.latches) ∙ ap reverse
@@ -335,9 +336,9 @@ latched_shown r n st count marks u tracker fences queues shown l registers goes 
       signalled = subst (λ f. AreFencesOf f n.device.signalled) (sym set) (H.signals.fences st.fences stands.fences);
       fenced = subst (λ f. AreMadeFences m.device.world n.device.signalled f) (sym set)
           (subst (λ ids. AreMadeFences m.device.world ids (with_signal st.fences fence)) (sym H.signalled)
-          (latched_fenced m fence st.fences made stands.fenced));
+          (latched_fenced m fence made stands.fenced));
       told = subst (λ qs. AreQueues (length s.clients) n.events qs) (sym told)
-          (queues_told t m n (length s.clients) k c count st.queues H.signals C.low C.high stands.queues);
+          (queues_told H.signals C.low C.high stands.queues);
       tracked = tracked;
       written = written;
       going = going;
@@ -352,10 +353,10 @@ pub record IsFlushed (t : Topology) (d : DeviceState) (ls : List Latch) (k c : �
   pub written : has_pair d.marks.written k c ≡ true
   pub unlatched : has_latched ls k c ≡ false
 
-pub shadow_flushed : (t : Topology) (d : DeviceState) (ls : List Latch) (k c : ℕ) → Tail t d.commits d.marks d.shadow d.go ls
+pub shadow_flushed : {t : Topology} {d : DeviceState} {ls : List Latch} {k c : ℕ} → Tail t d.commits d.marks d.shadow d.go ls
     → IsFlushed t d ls k c → is_on_in d.shadow c ≡ (new_crtc t d.commits k c).active
 unfolding crtc_after
-shadow_flushed t d ls k c T f =
+shadow_flushed {t} {d} {k} {c} T f =
     let e = T.shadow.crtc c f.is_crtc in
     let up : k < e.at = e.above k f.written in
     let touched : commit_touches t d.commits k c ≡ true = names-touches t d.commits k c T.few f.is_crtc f.names in

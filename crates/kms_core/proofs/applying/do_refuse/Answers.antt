@@ -10,5 +10,5 @@ refusal_reply-reply-requires-clause-refused c = may_refuse_now c.args.core.now c
 
 pub decide-requires : goal.decide-requires
 decide-requires c = rw (c.deref_mut.ensures.value ∙ c.core.view_is)
-    (decides_refuse c.args.core.now c.args.client c.in-Some.request.now c.refusal_reply-reply.result
+    (decides_refuse c.args.core.now c.args.client
     c.is_a_history.ensures.formed c.requires c.in-Some.ensures c.refusal_reply-reply.ensures)

@@ -16,6 +16,6 @@ returns c =
     let has = ap ticket_in (sym c.doing.ensures ∙ c.in-BackedOff.is) in
     record {
       history = c.in_ok-_answer.ensures.history c.args.client has
-          ∙ ap (gains c.args.core.now) (relock_done c.args.core.now c.args.client c.in_ok-_answer._answer c.requires
+          ∙ ap (gains c.args.core.now) (relock_done c.args.core.now c.args.client c.requires
           (c.in_ok-_answer.ensures.answer c.args.client has));
     }

@@ -15,8 +15,7 @@ loop-index-preserved g c =
       size = length-set _ _ _ ∙ c.loop-index.invariant.size;
       done = each_below (λ p. swapped_in (get_or c.args.states.now p None) (get_or c.args.checked.now p None)) c.loop-index.states
           c.loop-index.index c.swap_one.result None within c.loop-index.invariant.done
-          (swapped_here c.loop-index.states c.args.states.now c.args.checked.now c.loop-index.index c.index-states-index.result
-          c.index-checked-index.result c.swap_one.result within there c.swap_one.ensures
+          (swapped_here c.loop-index.states c.args.states.now c.args.checked.now c.loop-index.index within there c.swap_one.ensures
           c.index-states-index.is c.index-checked-index.is (c.loop-index.invariant.left c.loop-index.index (omega arith)));
       left = each_behind (λ p. get_or c.args.states.now p None) c.loop-index.states c.loop-index.index c.swap_one.result None
           c.loop-index.invariant.left;

@@ -1,29 +1,29 @@
 use Rattle.std.proofs.Common.{arith, sym, ap, ◌∙◌}
 use Rattle.std.specs.Option.{option_copied}
-use Rattle.kms_core.proofs.stores.FreedIds.{keeps_found, keeps_in, keeps_none, never_missing, tail_keeps}
+use Rattle.kms_core.proofs.stores.FreedIds.{keeps_found, keeps_in, keeps_none, never_missing}
 use Rattle.kms_core.proofs.stores.Seeking.{goes_up, less_left, one_passed}
 use Rattle.kms_core.proofs.freeing.freed.commits_keep.Goals as goal
 
 pub unreachable-requires : goal.unreachable-requires
-unreachable-requires c = never_missing c.args.tracker.now c.seeking.from c.in-Some.commit c.requires c.in-Some.ensures.machine
+unreachable-requires c = never_missing c.seeking.from c.in-Some.commit c.requires c.in-Some.ensures.machine
     (sym (ap option_copied c.in_default-get.is) ∙ c.get.ensures)
 
 pub returns-then-tail_names : goal.returns-then-tail_names
 returns-then-tail_names c = λ t m device stand.
-    sym (keeps_found c.args.tracker.now c.args.id c.seeking.from c.in-Some.commit t m c.in-Some.ensures.machine
+    sym (keeps_found c.args.id c.seeking.from c.in-Some.commit m c.in-Some.ensures.machine
     (sym (ap (λ o. keeps_in o c.args.id) (sym (ap option_copied c.in-Some-get.is) ∙ c.get.ensures)) ∙ sym c.tail_names.ensures
     ∙ c.if-tail_names.true) device stand)
 
 pub overflow_add-from : goal.overflow_add-from
-overflow_add-from c = let l = (goes_up c.args.tracker.now c.seeking.from c.in-Some.commit c.requires c.in-Some.ensures.machine).fits in
+overflow_add-from c = let l = (goes_up c.seeking.from c.in-Some.commit c.requires c.in-Some.ensures.machine).fits in
     omega (arith, l)
 
 pub seeking-smaller : goal.seeking-smaller
-seeking-smaller c = less_left c.args.tracker.now c.seeking.from c.in-Some.commit c.requires c.in-Some.ensures.machine
+seeking-smaller c = less_left c.seeking.from c.in-Some.commit c.requires c.in-Some.ensures.machine
 
 pub seeking-preserved : goal.seeking-preserved
 seeking-preserved c =
-    one_passed c.args.tracker.now (tail_keeps c.args.tracker.now c.args.id) c.seeking.from c.in-Some.commit c.seeking.invariant
+    one_passed c.in-Some.commit c.seeking.invariant
     c.in-Some.ensures.machine
     (sym (ap (λ o. keeps_in o c.args.id) (sym (ap option_copied c.in-Some-get.is) ∙ c.get.ensures))
     ∙ sym c.tail_names.ensures ∙ c.if-tail_names.false)

@@ -44,14 +44,14 @@ loop-id-preserved c =
     let new_fbs = ap (λ (made : Made). made.fbs) c.release.ensures.given in
     record {
       items = λ t m tell.
-          among_items t m id (drop i ids)
-          (drop (i + 1) ids) label c.loop-id.freed.items c.release.new.freed.items _ more c.release.ensures.items
-          (c.freed_label-label.ensures.label t m (tells_still t m first c.loop-id.things _ _ _ _ c.loop-id.invariant.only tell))
+          among_items t m id
+          (drop (i + 1) ids) label c.loop-id.freed.items more c.release.ensures.items
+          (c.freed_label-label.ensures.label t m (tells_still c.loop-id.things c.loop-id.invariant.only tell))
           (c.loop-id.invariant.items t m tell);
       places = λ t m tell.
           among_places t m id (drop i ids)
           (drop (i + 1) ids) label c.args.freed.now.places c.loop-id.freed.places c.release.new.freed.places _ more c.release.ensures.places
-          (c.freed_label-label.ensures.label t m (tells_still t m first c.loop-id.things _ _ _ _ c.loop-id.invariant.only tell))
+          (c.freed_label-label.ensures.label t m (tells_still c.loop-id.things c.loop-id.invariant.only tell))
           (c.loop-id.invariant.places t m tell);
       room = among_room first.things id (drop i ids)
           (drop (i + 1) ids) label c.loop-id.freed.places c.release.new.freed.places more c.release.ensures.places there
@@ -59,7 +59,7 @@ loop-id-preserved c =
       only = fbs_again first c.loop-id.things c.release.new.things _ c.loop-id.invariant.only c.release.ensures.given;
       left = λ t m tell.
           among_fbs t m id (drop i ids) (drop (i + 1) ids) label c.loop-id.things.fbs c.release.new.things.fbs _ more new_fbs
-          (c.freed_label-label.ensures.label t m (tells_still t m first c.loop-id.things _ _ _ _ c.loop-id.invariant.only tell))
+          (c.freed_label-label.ensures.label t m (tells_still c.loop-id.things c.loop-id.invariant.only tell))
           (c.loop-id.invariant.left t m tell);
       rising = rest_rising id (drop i ids) (drop (i + 1) ids) more c.loop-id.invariant.rising;
       held = among_held first.things id (drop i ids)

@@ -22,4 +22,4 @@ pub returns : goal.returns
 returns c = λ t d latches k device is.
     subst (λ xs. AreAllOf xs (λ id. commit_keeps t d id k))
     (sym (put_end c.args.tail.now c.loop-index.index c.loop-index.ids.items c.loop-index-test.false c.loop-index.invariant.so_far))
-    (kept_all t d latches k c.args.tail.now device is)
+    (kept_all d device is)

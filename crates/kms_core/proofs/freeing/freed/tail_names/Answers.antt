@@ -9,12 +9,12 @@ loop-index-init c = ap (λ xs. has_number xs c.args.id) (first_ids c.args.tail.n
 
 pub returns-then-both_name : goal.returns-then-both_name
 returns-then-both_name c =
-    tail_here c.args.tail.now c.loop-index.index c.args.id c.both_name.result c.loop-index-test.true c.loop-index.invariant
+    tail_here c.args.tail.now c.loop-index.index c.args.id c.loop-index-test.true c.loop-index.invariant
     (c.both_name.ensures ∙ ap (λ o. has_number (both_ids o) c.args.id) c.touched_plane.ensures) c.if-both_name.true
 
 pub loop-index-preserved : goal.loop-index-preserved
 loop-index-preserved c =
-    tail_on c.args.tail.now c.loop-index.index c.args.id c.both_name.result c.loop-index-test.true c.loop-index.invariant
+    tail_on c.args.tail.now c.loop-index.index c.args.id c.loop-index-test.true c.loop-index.invariant
     (c.both_name.ensures ∙ ap (λ o. has_number (both_ids o) c.args.id) c.touched_plane.ensures) c.if-both_name.false
 
 pub returns : goal.returns

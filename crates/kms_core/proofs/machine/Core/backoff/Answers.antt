@@ -3,41 +3,34 @@ use Rattle.kms_wwlock.specs.Standing.{ticket_in}
 use Rattle.kms_model.specs.declared.replies.Step.TheVariants as step
 use Rattle.kms_core.specs.Run.{machine}
 use Rattle.kms_core.proofs.calls.BackingOff.{client_of_context, is_found, must_place, backoff_goes_on, gains_step}
-use Rattle.kms_core.specs.Insides.{run_in, stores_of}
-use Rattle.kms_core.proofs.stores.Spared.{other_spared}
+use Rattle.kms_core.proofs.stores.Histories.{gained, seen}
+use Rattle.kms_core.proofs.stores.Spared.{other_holds}
 use Rattle.kms_core.proofs.machine.Core.backoff.Goals as goal
 
 pub unreachable-requires : goal.unreachable-requires
 unreachable-requires c =
     let has = ap ticket_in c.requires.must in
-    c.in_default.ensures.none c.requires.client
-    (client_of_context (run_in c.stores.inside) c.args.self.now (stores_of c.stores.inside) c.args.t c.stores.invariant.stands
-    (c.stores.view_is ∙ c.deref_mut-stores.ensures.value ∙ c.self.view_is) c.requires.client has)
-    (is_found (run_in c.stores.inside) c.args.self.now (stores_of c.stores.inside) c.args.t c.stores.invariant.stands
-    (c.stores.view_is ∙ c.deref_mut-stores.ensures.value ∙ c.self.view_is) c.requires.client has)
+    let here = seen c.stores.invariant (c.stores.view_is ∙ c.deref_mut-stores.ensures.value ∙ c.self.view_is) in
+    c.in_default.ensures.none c.requires.client (client_of_context here.stands has)
+    (is_found here.stands c.args.t c.requires.client has)
 
 pub backoff-requires-clause-must : goal.backoff-requires-clause-must
-backoff-requires-clause-must c = must_place (run_in c.stores.inside) c.args.self.now
-    (stores_of c.stores.inside) c.args.t c.stores.invariant.stands (c.stores.view_is ∙ c.deref_mut-stores.ensures.value ∙ c.self.view_is)
-    c.in-Some.client c.in-Some.ensures.some c.requires
+backoff-requires-clause-must c =
+    must_place (seen c.stores.invariant (c.stores.view_is ∙ c.deref_mut-stores.ensures.value ∙ c.self.view_is)).stands
+    c.in-Some.ensures.some c.requires
 
 pub invariant_of-stores-2 : goal.invariant_of-stores-2
 invariant_of-stores-2 c =
-    let stands =
-    backoff_goes_on (run_in c.stores.inside) c.args.self.now (stores_of c.stores.inside) c.args.t c.stores.invariant.stands
-    (c.stores.view_is ∙ c.deref_mut-stores.ensures.value ∙ c.self.view_is) c.in-Some.client c.in-Some.ensures.some c.backoff.new.self
-    c.make_step_room.new.steps.items c.push.new.self.items c.requires
-    c.in_ok-make_step_room.ensures.items c.push.ensures.items
-    (c.backoff.ensures (machine (run_in c.stores.inside)) c.stores.invariant.stands.stores.clients) in
-    record {
-      stands = stands;
-      spare = other_spared _ _ _ _ _ _ _ _ _ _ c.stores.invariant.stands stands c.in_ok-make_step_room.ensures.items
-          c.push.ensures.items refl c.stores.invariant.spare c.in_ok-make_step_room.ensures.room c.push.ensures.room;
-    }
+    let same = c.stores.view_is ∙ c.deref_mut-stores.ensures.value ∙ c.self.view_is in
+    let here = seen c.stores.invariant same in
+    let more = gained (step.BackOff c.in-Some.client ∷ []) same c.in_ok-make_step_room.ensures.items c.push.ensures.items in
+    other_holds _ _ here
+    (backoff_goes_on here.stands c.in-Some.ensures.some c.requires more
+    (c.backoff.ensures (machine c.args.self.now) here.stands.stores.clients))
+    more refl refl c.in_ok-make_step_room.ensures.room c.push.ensures.room
 
 pub returns-clause-history : goal.returns-clause-history
-returns-clause-history c = λ client has.
-    gains_step (run_in c.stores.inside) c.args.self.now (stores_of c.stores.inside) c.args.t c.stores.invariant.stands
-    (c.stores.view_is ∙ c.deref_mut-stores.ensures.value ∙ c.self.view_is) c.in-Some.client c.in-Some.ensures.some
-    (λ n. step.BackOff n ∷ []) c.make_step_room.new.steps.items c.push.new.self.items
-    c.in_ok-make_step_room.ensures.items c.push.ensures.items client has
+returns-clause-history c =
+    let same = c.stores.view_is ∙ c.deref_mut-stores.ensures.value ∙ c.self.view_is in
+    gains_step (seen c.stores.invariant same).stands c.in-Some.ensures.some (λ n. step.BackOff n ∷ [])
+    (gained _ same c.in_ok-make_step_room.ensures.items c.push.ensures.items)

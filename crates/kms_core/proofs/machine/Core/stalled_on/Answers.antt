@@ -5,7 +5,7 @@ use Rattle.kms_core.proofs.machine.Core.stalled_on.Goals as goal
 pub returns-in-Some : goal.returns-in-Some
 returns-in-Some c =
     c.label_of.ensures
-    ∙ told_label c.args.self.now c.in-Some.fence (sym c.is_dead.ensures ∙ c.if-not-is_dead.false)
+    ∙ told_label c.args.self.now (sym c.is_dead.ensures ∙ c.if-not-is_dead.false)
     (sym c.in-Some.is ∙ c.awaited_fence.ensures)
 
 pub returns-in-None : goal.returns-in-None

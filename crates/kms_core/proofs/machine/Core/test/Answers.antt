@@ -6,18 +6,16 @@ use Rattle.kms_model.specs.Request.Lookups.{look_up}
 use Rattle.kms_core.specs.declared.stores.looking.Decided.TheVariants as decided
 use Rattle.kms_core.specs.Decisions.{IsDecided, MayTest, steps_of, taker, world}
 use Rattle.kms_core.specs.Run.{Run, gains, if_ok, machine}
-use Rattle.kms_core.specs.Insides.{run_in, stores_of}
+use Rattle.kms_core.proofs.stores.Histories.{seen}
 use Rattle.kms_core.proofs.Takers.{taker_as}
 use Rattle.kms_core.proofs.stores.Accepted.{tests_as}
 use Rattle.kms_core.proofs.machine.Core.test.Goals as goal
 
 pub decide_fresh-requires : goal.decide_fresh-requires
 decide_fresh-requires c = λ fresh.
-    let seen = c.deref_mut-stores.ensures.value ∙ c.self.view_is in
-    tests_as (run_in c.stores.inside) c.deref_mut-stores.result.now
-    (stores_of c.stores.inside) c.args.t.0 c.args.used.now c.args.checked.now
-    c.taker-client.result c.stores.invariant.stands c.stores.view_is fresh
-    (subst (λ (w : Run). MayTest w c.args.t.0 c.args.used.now c.args.checked.now) (sym seen) c.requires) c.taker-client.ensures
+    let told = c.deref_mut-stores.ensures.value ∙ c.self.view_is in
+    tests_as (seen c.stores.invariant c.stores.view_is).stands fresh
+    (subst (λ (w : Run). MayTest w c.args.t.0 c.args.used.now c.args.checked.now) (sym told) c.requires) c.taker-client.ensures
 
 pub returns-clause-answer : goal.returns-clause-answer
 returns-clause-answer c =
@@ -29,8 +27,7 @@ returns-clause-history c =
     let X = c.deref_mut-stores.result.now in
     c.decide_fresh.ensures.history
     ∙ ap (λ n. gains X (if_ok c.decide_fresh.result (steps_of n (step.Test n))))
-    (taker_as (run_in c.stores.inside) X (stores_of c.stores.inside) c.args.t.0 c.taker-client.result c.stores.invariant.stands
-    c.stores.view_is c.taker-client.ensures)
+    (taker_as c.args.t.0 (seen c.stores.invariant c.stores.view_is).stands c.taker-client.ensures)
     ∙ ap (λ (w : Run). gains w (if_ok c.decide_fresh.result
     (steps_of (taker (machine w) c.args.t.0) (step.Test (taker (machine w) c.args.t.0)))))
     (c.deref_mut-stores.ensures.value ∙ c.self.view_is)

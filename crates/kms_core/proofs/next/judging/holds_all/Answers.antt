@@ -11,6 +11,6 @@ loop-place-preserved c = λ m stand.
     elim c.if-held.branch [
       | then-held w ↦ (rw w.held-is (one_more (held_at m c.args.client c.args.objects.now) c.loop-place.place c.loop-place.held
           w.holds_at-held.result (c.loop-place.invariant m stand) w.if-held.true (w.holds_at-held.ensures m stand)))
-      | else-held w ↦ (no_more (held_at m c.args.client c.args.objects.now) c.loop-place.place c.loop-place.held c.if-held.held
+      | else-held w ↦ (no_more (held_at m c.args.client c.args.objects.now) c.loop-place.place
           (c.loop-place.invariant m stand) w.if-held.false w.held-is)
     ]

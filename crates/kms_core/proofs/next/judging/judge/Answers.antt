@@ -1,7 +1,6 @@
 use Rattle.std.proofs.Common.{◌≡◌, ◌∙◌, ◌<◌, ◌-◌, length, None, rules, refl, sym}
 use Rattle.kms_model.specs.Request.Verdict.{early_in}
 use Rattle.kms_request.specs.Whole.{StandBetween}
-use Rattle.kms_track.specs.Tracking.{not_yet_of}
 use Rattle.kms_core.specs.Decisions.{world}
 use Rattle.kms_core.specs.Run.{machine}
 use Rattle.kms_core.specs.Insides.{run_in, stores_of}
@@ -11,33 +10,33 @@ use Rattle.kms_core.proofs.next.Presented.{presented, somewhere_now, tells_now}
 use Rattle.kms_core.proofs.next.judging.judge.Goals as goal
 
 pub changed-after-requires : goal.changed-after-requires
-changed-after-requires c = somewhere_now (run_in c.stores.inside) (stores_of c.stores.inside) c.stores.invariant.stands
+changed-after-requires c = somewhere_now c.stores.invariant.stands
 
 pub index-queue-requires : goal.index-queue-requires
 index-queue-requires c =
     let r = run_in c.stores.inside in
     let within : c.args.client - 1 < length c.stores.inside.queues.items =
-    (queue_there r (stores_of c.stores.inside) c.args.client c.args.request.now (takes_at r c.args.core.now c.args.client
-    c.args.request.now (c.stores.view_is ∙ c.deref-stores.ensures ∙ c.core.view_is) c.requires).at c.stores.invariant.stands).within in
+    (queue_there c.args.client (takes_at c.args.client (c.stores.view_is ∙ c.deref-stores.ensures ∙ c.core.view_is) c.requires).at
+    c.stores.invariant.stands).within in
     search rules
 
 pub late_reply-requires : goal.late_reply-requires
 late_reply-requires c =
     let r = run_in c.stores.inside in
-    few_at r (stores_of c.stores.inside) c.args.client c.args.request.now c.index-queue.result.now
-    (takes_at r c.args.core.now c.args.client c.args.request.now (c.stores.view_is ∙ c.deref-stores.ensures ∙ c.core.view_is)
+    few_at c.args.client
+    (takes_at c.args.client (c.stores.view_is ∙ c.deref-stores.ensures ∙ c.core.view_is)
     c.requires).at c.stores.invariant.stands c.index-queue.ensures
 
 pub full_check-requires : goal.full_check-requires
 full_check-requires c =
     let r = run_in c.stores.inside in
     let st = stores_of c.stores.inside in
-    let none = early_none r st c.args.request.now c.early.result c.stores.invariant.stands c.early.ensures.first
+    let none = early_none c.args.request.now c.early.result c.stores.invariant.stands c.early.ensures.first
     (sym c.is_some.ensures ∙ c.if-is_some.false) in
     record {
       world = world r;
-      between = c.changed-after.ensures.between (world r) (presented r st c.stores.invariant.stands)
-          (tells_now r st c.stores.invariant.stands) none;
+      between = c.changed-after.ensures.between (world r) (presented c.stores.invariant.stands)
+          (tells_now c.stores.invariant.stands) none;
     }
 
 pub returns : goal.returns
@@ -45,13 +44,13 @@ returns c =
     let r = run_in c.stores.inside in
     let st = stores_of c.stores.inside in
     let none : early_in r.script.topology (world r) c.args.request.now
-    ≡ None = early_none r st c.args.request.now c.early.result c.stores.invariant.stands c.early.ensures.first
+    ≡ None = early_none c.args.request.now c.early.result c.stores.invariant.stands c.early.ensures.first
     (sym c.is_some.ensures ∙ c.if-is_some.false) in
     let stand : StandBetween r.script.topology (world r) c.args.request.now c.changed-after.result = c.changed-after.ensures.between
-    (world r) (presented r st c.stores.invariant.stands) (tells_now r st c.stores.invariant.stands) none in
-    let takes = takes_at r c.args.core.now c.args.client c.args.request.now (c.stores.view_is ∙ c.deref-stores.ensures ∙ c.core.view_is)
+    (world r) (presented c.stores.invariant.stands) (tells_now c.stores.invariant.stands) none in
+    let takes = takes_at c.args.client (c.stores.view_is ∙ c.deref-stores.ensures ∙ c.core.view_is)
     c.requires in
-    judged_late r c.args.core.now st c.args.client c.args.request.now _ c.stores.invariant.stands
+    judged_late _ c.stores.invariant.stands
     (c.stores.view_is ∙ c.deref-stores.ensures ∙ c.core.view_is) takes
     (record {
       after = c.changed-after.result;
@@ -62,12 +61,12 @@ returns c =
       none = none;
       named_is = c.spans-named.ensures.named r.script.topology (world r) stand;
       touched_is = c.spans-named.ensures.touched r.script.topology (world r) stand;
-      queue_is = queue_at r st c.args.client c.args.request.now c.index-queue.result.now takes.at c.stores.invariant.stands
+      queue_is = queue_at c.args.client takes.at c.stores.invariant.stands
           c.index-queue.ensures;
       refusal_is = c.full_check.ensures (world r) stand;
       holds = c.holds_all.ensures (machine r) c.stores.invariant.stands.stores.clients;
       late = refl;
       hindered = c.late_reply.ensures;
-      ready = none_told c.is_none.result c.not_yet.result (not_yet_of c.stores.inside.tracker c.spans-named.result.0)
+      ready = none_told c.is_none.result c.not_yet.result
           (sym c.is_none.ensures) c.not_yet.ensures;
     })

@@ -18,16 +18,16 @@ returns-then-not-is_lockable c =
     (c.stores.view_is ∙ c.deref-stores.ensures ∙ c.core.view_is)) ∙ sym c.is_lockable.ensures ∙ c.if-not-is_lockable.true)
 
 pub reach-reached-requires : goal.reach-reached-requires
-reach-reached-requires c = somewhere_ever (run_in c.stores.inside) (stores_of c.stores.inside) c.stores.invariant.stands
+reach-reached-requires c = somewhere_ever c.stores.invariant.stands
 
 pub is_free_or_older-requires-clause-client : goal.is_free_or_older-requires-clause-client
 is_free_or_older-requires-clause-client c =
-    taker_number (run_in c.stores.inside) c.args.core.now (stores_of c.stores.inside) c.args.client c.in-Some.request.now
+    taker_number c.args.client
     c.stores.invariant.stands (c.stores.view_is ∙ c.deref-stores.ensures ∙ c.core.view_is) c.in-Some.ensures
 
 pub is_free_or_older-requires-clause-lockable : goal.is_free_or_older-requires-clause-lockable
 is_free_or_older-requires-clause-lockable c =
-    lockable_of c.stores.inside.script.topology c.args.kind c.args.index c.of.result
+    lockable_of c.args.kind c.args.index c.of.result
     (few_objects c.stores.inside.script.topology c.stores.invariant.stands.formed.device) c.of.ensures
     (sym c.is_lockable.ensures ∙ c.if-not-is_lockable.false)
 
@@ -39,8 +39,8 @@ returns-then-is_member c =
     lock_found r c.args.core.now c.args.client c.args.kind c.args.index c.in-Some.request.now true c.is_free_or_older.result c.of.result
     (c.stores.view_is ∙ c.deref-stores.ensures ∙ c.core.view_is) c.in-Some.ensures on
     (sym c.if-is_member.true ∙ c.is_member.ensures
-    ∙ c.reach-reached.ensures.each (world r) c.args.kind c.args.index (presented r st c.stores.invariant.stands)
-    (tells_ever r st c.stores.invariant.stands) (lockable_exists r.script.topology c.args.kind c.args.index on))
+    ∙ c.reach-reached.ensures.each (world r) c.args.kind c.args.index (presented c.stores.invariant.stands)
+    (tells_ever c.stores.invariant.stands) (lockable_exists r.script.topology c.args.kind c.args.index on))
     c.of.ensures (c.is_free_or_older.ensures (machine r) c.stores.invariant.stands.stores.clients)
 
 pub returns-else-is_member : goal.returns-else-is_member
@@ -48,9 +48,9 @@ returns-else-is_member c =
     let r = run_in c.stores.inside in
     let st = stores_of c.stores.inside in
     let on = sym c.is_lockable.ensures ∙ c.if-not-is_lockable.false in
-    lock_apart r c.args.core.now c.args.client c.args.kind c.args.index c.in-Some.request.now c.is_member.result
+    lock_apart c.args.client c.args.kind c.args.index
     (c.stores.view_is ∙ c.deref-stores.ensures ∙ c.core.view_is) c.in-Some.ensures on
     (c.is_member.ensures
-    ∙ c.reach-reached.ensures.each (world r) c.args.kind c.args.index (presented r st c.stores.invariant.stands)
-    (tells_ever r st c.stores.invariant.stands) (lockable_exists r.script.topology c.args.kind c.args.index on))
+    ∙ c.reach-reached.ensures.each (world r) c.args.kind c.args.index (presented c.stores.invariant.stands)
+    (tells_ever c.stores.invariant.stands) (lockable_exists r.script.topology c.args.kind c.args.index on))
     c.if-is_member.false

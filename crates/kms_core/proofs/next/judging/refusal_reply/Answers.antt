@@ -1,11 +1,10 @@
 use Rattle.std.proofs.Common.{◌∙◌}
 use Rattle.kms_core.specs.Run.{machine}
-use Rattle.kms_core.specs.Insides.{run_in, stores_of}
 use Rattle.kms_core.proofs.next.Refusing.{refused_early, refused_last, refused_late, refused_never}
 use Rattle.kms_core.proofs.next.judging.refusal_reply.Goals as goal
 
 pub returns-in-Some : goal.returns-in-Some
-returns-in-Some c = refused_early (run_in c.stores.inside) c.args.core.now (stores_of c.stores.inside) c.args.client c.args.request.now
+returns-in-Some c = refused_early c.args.client c.args.request.now
     c.in-Some.why c.stores.invariant.stands (c.stores.view_is ∙ c.deref-stores.ensures ∙ c.core.view_is) c.in-Some.ensures.first
 
 pub returns-in-Some-default : goal.returns-in-Some-default

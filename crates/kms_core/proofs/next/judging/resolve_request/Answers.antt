@@ -9,10 +9,10 @@ resolve-requires c = rw c.script.ensures
 
 pub returns-in-Ok : goal.returns-in-Ok
 returns-in-Ok c =
-    resolved_now c.script.result.now c.args.core.now c.args.request.now c.in_ok-found.found c.in-Ok.resolved c.script.ensures
+    resolved_now c.args.core.now c.args.request.now c.in-Ok.resolved c.script.ensures
     c.in_ok-found.ensures c.in-Ok.ensures.resolved_by
 
 pub unreachable-requires : goal.unreachable-requires
 unreachable-requires c =
-    resolved_never c.script.result.now c.args.core.now c.args.request.now c.in_ok-found.found c.in-Err-Of._why c.in-Err-Of.field-0
+    resolved_never c.args.core.now c.args.request.now c.in-Err-Of._why
     c.script.ensures c.in_ok-found.ensures c.requires c.in-Err-Of.field-0-is c.in-Err-Of.ensures.refused_by

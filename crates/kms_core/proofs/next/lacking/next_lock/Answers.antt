@@ -1,4 +1,4 @@
-use Rattle.std.proofs.Common.{None, Some, ap, refl, sym, ◌∙◌}
+use Rattle.std.proofs.Common.{ap, refl, sym, ◌∙◌}
 use Rattle.std.specs.Option.{option_map}
 use Rattle.kms_model.specs.declared.objects.ObjId.{ObjId}
 use Rattle.kms_core.specs.Run.{machine}
@@ -8,12 +8,12 @@ use Rattle.kms_core.proofs.next.lacking.next_lock.Goals as goal
 pub returns-in-Some : goal.returns-in-Some
 returns-in-Some c =
     let v = c.args.core.now in
-    next_told v.script (machine v) c.args.client c.args.needs.now.request.now c.first_lacked-group.result (Some c.in-Some.id.0) _
+    next_told v.script (machine v) c.args.client c.args.needs.now.request.now _
     c.first_lacked-group.ensures (ap (option_map (λ (id : ObjId). id.0)) (sym c.in-Some.is) ∙ c.first_open.ensures) refl
 
 pub returns-in-None : goal.returns-in-None
 returns-in-None c =
     let v = c.args.core.now in
-    next_told v.script (machine v) c.args.client c.args.needs.now.request.now c.first_lacked-group.result None _
+    next_told v.script (machine v) c.args.client c.args.needs.now.request.now _
     c.first_lacked-group.ensures (ap (option_map (λ (id : ObjId). id.0)) (sym c.in-None.is) ∙ c.first_open.ensures)
     c.first_open-in-None.ensures

@@ -8,14 +8,14 @@ pub returns-in_default : goal.returns-in_default
 returns-in_default c =
     let v = c.args.core.now in
     let q = c.args.request.now in
-    taking_told v c.args.client c.requires.going q c.requires.taken true _ _
+    taking_told v c.args.client c.requires.going c.requires.taken _ _
     (refuse_early v.script (machine v) c.args.client q c.requires.taken c.in_default.ensures) refl refl
 
 pub returns-then-is_refused : goal.returns-then-is_refused
 returns-then-is_refused c =
     let v = c.args.core.now in
     let q = c.args.request.now in
-    taking_told v c.args.client c.requires.going q c.requires.taken true _ _
+    taking_told v c.args.client c.requires.going c.requires.taken _ _
     (sym c.if-is_refused.true ∙ c.is_refused.ensures ∙ refuse_late v.script (machine v) c.args.client q c.requires.taken c.in-Some.judged
     c.in-Some.ensures c.is_test-is_test.result c.is_test-is_test.ensures) refl refl
 
@@ -23,7 +23,7 @@ pub returns-then-is_accepted : goal.returns-then-is_accepted
 returns-then-is_accepted c =
     let v = c.args.core.now in
     let q = c.args.request.now in
-    taking_told v c.args.client c.requires.going q c.requires.taken false true _
+    taking_told v c.args.client c.requires.going c.requires.taken true _
     (sym c.if-is_refused.false ∙ c.is_refused.ensures ∙ refuse_late v.script (machine v) c.args.client q c.requires.taken c.in-Some.judged
     c.in-Some.ensures c.is_test-is_test.result c.is_test-is_test.ensures)
     (sym c.if-is_accepted.true ∙ c.is_accepted.ensures ∙ test_late v.script (machine v) c.args.client q c.requires.taken c.in-Some.judged
@@ -33,7 +33,7 @@ pub returns-then-is_committed : goal.returns-then-is_committed
 returns-then-is_committed c =
     let v = c.args.core.now in
     let q = c.args.request.now in
-    taking_told v c.args.client c.requires.going q c.requires.taken false false true
+    taking_told v c.args.client c.requires.going c.requires.taken false true
     (sym c.if-is_refused.false ∙ c.is_refused.ensures ∙ refuse_late v.script (machine v) c.args.client q c.requires.taken c.in-Some.judged
     c.in-Some.ensures c.is_test-is_test.result c.is_test-is_test.ensures)
     (sym c.if-is_accepted.false ∙ c.is_accepted.ensures ∙ test_late v.script (machine v) c.args.client q c.requires.taken c.in-Some.judged
@@ -45,8 +45,8 @@ pub returns-else-is_committed : goal.returns-else-is_committed
 returns-else-is_committed c =
     let v = c.args.core.now in
     let q = c.args.request.now in
-    c.lock_step.ensures ∙ lock_some v c.args.client q c.requires.taken
-    ∙ taking_told v c.args.client c.requires.going q c.requires.taken false false false
+    c.lock_step.ensures ∙ lock_some v c.args.client c.requires.taken
+    ∙ taking_told v c.args.client c.requires.going c.requires.taken false false
     (sym c.if-is_refused.false ∙ c.is_refused.ensures ∙ refuse_late v.script (machine v) c.args.client q c.requires.taken c.in-Some.judged
     c.in-Some.ensures c.is_test-is_test.result c.is_test-is_test.ensures)
     (sym c.if-is_accepted.false ∙ c.is_accepted.ensures ∙ test_late v.script (machine v) c.args.client q c.requires.taken c.in-Some.judged

@@ -17,7 +17,7 @@ invariant_of-result c =
     )
     (record {
       stands =
-          stands_first c.args.script c.new-2.result c.start_states-present.result c.in_ok-queues.queues.items c.new-registers.result
+          stands_first c.new-registers.result
           c.requires (c.new-2.ensures.stands c.args.script.topology) c.start_states-present.ensures.present
           (c.in_ok-queues.ensures ∙ ap (λ n. replicate n empty_queue) c.len.ensures) c.new-registers.ensures;
       spare = spared_first c.args.script;

@@ -8,7 +8,7 @@ pub returns : goal.returns
 returns c =
     let low = c.requires.low in
     let high = c.requires.high in
-    delivered_one c.args.tail.now c.args.shown.now c.args.queues.now.items c.index_mut.result.now c.deliver.new.self c.of-crtc.result.0
+    delivered_one c.args.tail.now c.args.shown.now c.args.queues.now.items
     c.if-not-tail.false
     (c.index_mut.ensures.value ∙ get_or_default c.args.queues.now.items _ _ empty_queue (omega (arith, low, high))) c.of-crtc.ensures
     (c.deliver.ensures ∙ ap (delivers c.index_mut.result.now) c.flip_event-event.ensures)
