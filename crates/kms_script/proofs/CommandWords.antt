@@ -1,7 +1,7 @@
 -- The words of a command: their bytes can be printed and are no blanks, they are short, and there are few of them.
-use Rattle.std.proofs.Common.{◌≡◌, ℕ, zero, suc, ◌+◌, ◌*◌, ◌/◌, ◌%◌, ◌<◌, ◌≤◌, ◌^◌, Bool, true, false, List, [], ◌∷◌, ◌++◌, codes, length}
+use Rattle.std.proofs.Common.{[], ◌≡◌, ℕ, zero, suc, ◌+◌, ◌*◌, ◌/◌, ◌%◌, ◌<◌, ◌≤◌, ◌^◌, Bool, true, false, List, ◌∷◌, ◌++◌, codes, length}
 use Rattle.std.proofs.Common.{length-append, map, ℤ, pos, negsuc, refl, sym, ap, ◌∙◌, arith, append-nil}
-use Rattle.std.specs.Prelude.{◌&&◌, ◌||◌, ◌==◌, int_le, nat_le, nat_lt}
+use Rattle.std.specs.Prelude.{◌&&◌, ◌==◌, int_le, nat_le, nat_lt}
 use Rattle.std.specs.Fmt.{decimal, digit_glyph, digits, signed_decimal}
 use Rattle.std.specs.List.{AllByRecursion, list_all}
 use Rattle.std.proofs.lemmas.Bool.{and_from, and_parts, eqb-true, le-leb, leb-true, ltb-true}
@@ -28,10 +28,11 @@ use Rattle.kms_model.specs.Script.Grammar.{field_words, is_printable, is_propert
 use Rattle.kms_model.specs.Script.Spelling.{assign_word, blob_word, command_words, format_word, hex_digits, hex_word, name_word}
 use Rattle.kms_model.specs.Script.Spelling.{pattern_words, pixel_word, property_word, spelt_mode, value_word}
 use Rattle.kms_model.specs.Script.WellFormed.{are_words16, has_widths, is_assign_in, is_command_in, is_integer, is_label_in, is_mode_name}
-use Rattle.kms_model.specs.Script.WellFormed.{is_pattern_of, is_property_in, is_value_in, is_word16, is_word32}
+use Rattle.kms_model.specs.Script.WellFormed.{is_pattern_of, is_pixel_of, is_value_in, is_word16, is_word32}
 use Rattle.kms_model.specs.Script.Words.{between, is_digit, is_hex, is_label, is_label_rest, is_letter, is_name_byte, until}
 use Rattle.kms_words.specs.Printed.{fields}
 use Rattle.kms_words.proofs.Spaced.{line-fields}
+use Rattle.kms_script.proofs.AssignParts.{assign_is, is_asked}
 use Rattle.kms_script.proofs.Cutting.{each, is_inner, words_of_fields}
 use Rattle.kms_script.proofs.Decimals.{decimal_digits}
 use Rattle.kms_script.proofs.HexBack.{IsWritten, all_written, glyph}
@@ -44,45 +45,23 @@ use Rattle.kms_script.proofs.WordsBack.{prop_word}
 abbrev pub is_ink : ℕ → Bool
 is_ink b = between 33 126 b
 
-within : (low high b : ℕ) → 33 ≤ low → high ≤ 126 → between low high b ≡ true → is_ink b ≡ true
-within low high b above below is =
-    let p = and_parts (nat_le low b) (nat_le b high) is in
-    let least : low ≤ b = leb-true low b p.0 in
-    let most : b ≤ high = leb-true b high p.1 in
-    rw (le-leb 33 b (omega (arith, least, above)), le-leb b 126 (omega (arith, most, below))) refl
-
-alone : (k b : ℕ) → is_ink k ≡ true → (b == k) ≡ true → is_ink b ≡ true
-alone k b ink is = let same : b ≡ k = eqb-true b k is in ap is_ink same ∙ ink
-
-either : (p q : Bool) (b : ℕ) → (p ≡ true → is_ink b ≡ true) → (q ≡ true → is_ink b ≡ true) → (p || q) ≡ true → is_ink b ≡ true
-either true q b one other is = one refl
-either false q b one other is = other is
-
 digit_ink : (b : ℕ) → is_digit b ≡ true → is_ink b ≡ true
-digit_ink b is = within 48 57 b (omega arith) (omega arith) is
-
-letter_ink : (b : ℕ) → is_letter b ≡ true → is_ink b ≡ true
-letter_ink b is = within 97 122 b (omega arith) (omega arith) is
+digit_ink b is = grind (arith, nat_tests)
 
 label_ink : (b : ℕ) → is_label_rest b ≡ true → is_ink b ≡ true
-label_ink b is = either (is_letter b) _ b (letter_ink b) (either (is_digit b) (b == 95) b (digit_ink b) (alone 95 b refl)) is
+label_ink b is = grind (arith, nat_tests)
 
 property_ink : (b : ℕ) → is_property_byte b ≡ true → is_ink b ≡ true
-property_ink b is =
-    either (is_letter b) _ b (letter_ink b)
-    (either (between 65 90 b) _ b (within 65 90 b (omega arith) (omega arith))
-    (either (is_digit b) (b == 95) b (digit_ink b) (alone 95 b refl))) is
+property_ink b is = grind (arith, nat_tests)
 
 name_ink : (b : ℕ) → is_name_byte b ≡ true → is_ink b ≡ true
-name_ink b is =
-    either (between 97 122 b) _ b (letter_ink b)
-    (either (between 65 90 b) _ b (within 65 90 b (omega arith) (omega arith))
-    (either (is_digit b) _ b (digit_ink b)
-    (either (b == 95) _ b (alone 95 b refl)
-    (either (b == 46) (b == 45) b (alone 46 b refl) (alone 45 b refl))))) is
+name_ink b is = grind (arith, nat_tests)
 
 hex_ink : (b : ℕ) → is_hex b ≡ true → is_ink b ≡ true
-hex_ink b is = either (is_digit b) (between 97 102 b) b (digit_ink b) (within 97 102 b (omega arith) (omega arith)) is
+hex_ink b is = grind (arith, nat_tests)
+
+letter_ink : (b : ℕ) → is_letter b ≡ true → is_ink b ≡ true
+letter_ink b is = grind (arith, nat_tests)
 
 ink_inner : (b : ℕ) → is_ink b ≡ true → is_inner b ≡ true
 ink_inner b is = grind (arith, nat_tests)
@@ -102,26 +81,30 @@ pub record IsWord (most : ℕ) (w : List ℕ) : Type 0 where
 abbrev pub AreWords : ℕ → List (List ℕ) → Type 0
 AreWords most ws = AllByRecursion (IsWord most) ws
 
-wider : (m n : ℕ) (w : List ℕ) → m ≤ n → IsWord m w → IsWord n w
+pub wider : (m n : ℕ) (w : List ℕ) → m ≤ n → IsWord m w → IsWord n w
 wider m n w le is = record { bytes = is.bytes; few = omega (arith, le, is.few) }
 
-behind : (m n : ℕ) (w v : List ℕ) → IsWord m w → IsWord n v → IsWord (m + n) (w ++ v)
+pub behind : (m n : ℕ) (w v : List ℕ) → IsWord m w → IsWord n v → IsWord (m + n) (w ++ v)
 behind m n w v one two = record {
   bytes = list_all-append is_ink w v ∙ and_from _ _ one.bytes two.bytes;
   few = omega (arith, length-append w v, one.few, two.few);
 }
 
-number_word : (n : ℕ) → n < 2 ^ 64 → IsWord 20 (decimal n)
+-- a word that is written out
+pub closed : (most : ℕ) (w : List ℕ) → (list_all is_ink w && nat_le (length w) most) ≡ true → IsWord most w
+closed most w is =
+    let p = and_parts (list_all is_ink w) (nat_le (length w) most) is in
+    record { bytes = p.0; few = leb-true (length w) most p.1 }
+
+-- the bytes of a word are no blanks
+pub inner : (most : ℕ) (w : List ℕ) → IsWord most w → list_all is_inner w ≡ true
+inner most w is = each is_ink is_inner ink_inner w is.bytes
+
+pub number_word : (n : ℕ) → n < 2 ^ 64 → IsWord 20 (decimal n)
 number_word n small = record {
   bytes = each is_digit is_ink digit_ink (decimal n) (decimal_digits n small);
   few = length-decimal-le 20 n (omega arith) (omega (arith, small)) small;
 }
-
-word32 : (n : ℕ) → is_word32 n ≡ true → IsWord 20 (decimal n)
-word32 n is = let small : n < 2 ^ 32 = ltb-true n (2 ^ 32) is in number_word n (omega (arith, small))
-
-word16 : (n : ℕ) → is_word16 n ≡ true → IsWord 20 (decimal n)
-word16 n is = let small : n < 2 ^ 16 = ltb-true n (2 ^ 16) is in number_word n (omega (arith, small))
 
 label_word : (w : List ℕ) → is_label w ≡ true → IsWord 16 w
 unfolding is_label
@@ -132,8 +115,8 @@ label_word (b ∷ bs) is =
     let few : length bs ≤ 15 = leb-true (length bs) 15 rest.0 in
     record { bytes = and_from _ _ (letter_ink b first.0) (each is_label_rest is_ink label_ink bs rest.1); few = omega (arith, few) }
 
-flags_word : (n : ℕ) → is_word32 n ≡ true → IsWord 10 (hex_word n)
-flags_word n is = written n (digits 16 false n) (all_written n (ltb-true n (2 ^ 32) is))
+pub flags_word : (n : ℕ) → n < 2 ^ 32 → IsWord 10 (hex_word n)
+flags_word n small = written n (digits 16 false n) (all_written n small)
   where
     written : (n : ℕ) (ds : List ℕ) → IsWritten 7 n [] ds → IsWord 10 (codes "0x" ++ ds)
     written n ds w =
@@ -141,7 +124,7 @@ flags_word n is = written n (digits 16 false n) (all_written n (ltb-true n (2 ^ 
         rw all (record { bytes = each is_hex is_ink hex_ink (w.first ∷ w.rest) w.hexes; few = omega (arith, w.few) })
 
 glyphs : (k n : ℕ) → IsWord k (hex_digits k n)
-glyphs zero n = record { bytes = refl; few = omega arith }
+glyphs zero n = closed _ _ refl
 glyphs (suc k) n =
     let g = glyph (n % 16) (omega arith) in
     let one : IsWord 1 (digit_glyph false (n % 16) ∷ []) = record { bytes = rw (hex_ink _ g.is) refl; few = omega arith } in
@@ -153,12 +136,12 @@ pixel Ar24 n = glyphs 8 n
 pixel Rg16 n = wider 4 8 _ (omega arith) (glyphs 4 n)
 
 format : (f : Format) → IsWord 4 (format_word f)
-format Xr24 = record { bytes = refl; few = omega arith }
-format Ar24 = record { bytes = refl; few = omega arith }
-format Rg16 = record { bytes = refl; few = omega arith }
+format Xr24 = closed _ _ refl
+format Ar24 = closed _ _ refl
+format Rg16 = closed _ _ refl
 
 blob : (bytes : List ℕ) → IsWord (2 * length bytes) (blob_word bytes)
-blob [] = record { bytes = refl; few = omega arith }
+blob [] = closed _ _ refl
 blob (b ∷ bs) =
     wider (2 + 2 * length bs) (2 * length (b ∷ bs)) _ (omega arith)
     (behind 2 (2 * length bs) (hex_digits 2 b) (blob_word bs) (glyphs 2 b) (blob bs))
@@ -170,27 +153,27 @@ signed_word (pos n) is =
 signed_word (negsuc n) is =
     let parts = and_parts (int_le (negsuc 9223372036854775807) (negsuc n)) (int_le (negsuc n) (pos 18446744073709551615)) is in
     let low : n ≤ 9223372036854775807 = leb-true n 9223372036854775807 parts.0 in
-    behind 1 20 (45 ∷ []) (decimal (suc n)) (record { bytes = refl; few = omega arith }) (number_word (suc n) (omega (arith, low)))
+    behind 1 20 (45 ∷ []) (decimal (suc n)) (closed _ _ refl) (number_word (suc n) (omega (arith, low)))
 
 -- Assignments
 
 given_word : (all : List (List ℕ)) (v : Value) → is_value_in all v ≡ true → IsWord 24 (value_word all v)
 given_word all (value.Num z) is = wider 21 24 _ (omega arith) (signed_word z is)
 given_word all (value.Named label) is =
-    wider 17 24 _ (omega arith) (behind 1 16 (codes "@") (name_word all label) (record { bytes = refl; few = omega arith })
+    wider 17 24 _ (omega arith) (behind 1 16 (codes "@") (name_word all label) (closed _ _ refl)
     (label_word _ is))
 given_word all (value.New label) is =
-    wider 17 24 _ (omega arith) (behind 1 16 (codes "+") (name_word all label) (record { bytes = refl; few = omega arith })
+    wider 17 24 _ (omega arith) (behind 1 16 (codes "+") (name_word all label) (closed _ _ refl)
     (label_word _ is))
 given_word all (value.Crtc index) is =
     let le : index ≤ 255 = leb-true index 255 is in
-    behind 4 20 (codes "crtc") (decimal index) (record { bytes = refl; few = omega arith }) (number_word index (omega (arith, le)))
+    behind 4 20 (codes "crtc") (decimal index) (closed _ _ refl) (number_word index (omega (arith, le)))
 
-kind_word : (kind : Kind) → IsWord 5 (kind_name kind)
-kind_word Crtc = record { bytes = refl; few = omega arith }
-kind_word Plane = record { bytes = refl; few = omega arith }
-kind_word Conn = record { bytes = refl; few = omega arith }
-kind_word Enc = record { bytes = refl; few = omega arith }
+pub kind_word : (kind : Kind) → IsWord 5 (kind_name kind)
+kind_word Crtc = closed _ _ refl
+kind_word Plane = closed _ _ refl
+kind_word Conn = closed _ _ refl
+kind_word Enc = closed _ _ refl
 
 named_word : (w : List ℕ) → is_property_word w ≡ true → IsWord 32 w
 named_word w is =
@@ -200,17 +183,16 @@ named_word w is =
 
 set_word : (all : List (List ℕ)) (profile : ℕ) (a : Assign) → is_assign_in profile all a ≡ true → IsWord 96 (assign_word all a)
 set_word all profile a is =
-    let outer = and_parts (nat_le a.index 255) (is_property_in profile all a.prop && is_value_in all a.value) is in
-    let inner = and_parts (is_property_in profile all a.prop) (is_value_in all a.value) outer.1 in
-    let le : a.index ≤ 255 = leb-true a.index 255 outer.0 in
-    let dot : IsWord 1 (codes ".") = record { bytes = refl; few = omega arith } in
-    let equals : IsWord 1 (codes "=") = record { bytes = refl; few = omega arith } in
+    let of = assign_is profile all a is in
+    let index = of.index in
     wider 83 96 _ (omega arith)
     (behind 59 24 _ _ (behind 58 1 _ _
-    (behind 26 32 _ _ (behind 25 1 _ _ (behind 5 20 _ _ (kind_word a.kind) (number_word a.index (omega (arith, le)))) dot)
-    (named_word (property_word all a.prop) (prop_word profile all a.prop inner.0))) equals) (given_word all a.value inner.1))
+    (behind 26 32 _ _ (behind 25 1 _ _ (behind 5 20 _ _ (kind_word a.kind) (number_word a.index (omega (arith, index))))
+    (closed 1 (codes ".") refl)) (named_word (property_word all a.prop) (prop_word profile all a.prop of.prop)))
+    (closed 1 (codes "=") refl))
+    (given_word all a.value of.value))
 
-set_words : (all : List (List ℕ)) (profile : ℕ) (assigns : List Assign) → list_all (is_assign_in profile all) assigns ≡ true
+pub set_words : (all : List (List ℕ)) (profile : ℕ) (assigns : List Assign) → list_all (is_assign_in profile all) assigns ≡ true
     → AreWords 96 (map (assign_word all) assigns)
 set_words all profile [] are = tt
 set_words all profile (a ∷ more) are =
@@ -234,50 +216,53 @@ room_is : (n : ℕ) → room 96 n ≡ 97 * n
 room_is zero = refl
 room_is (suc n) = omega (arith, room_is n)
 
--- at most 300 words of at most 96 bytes
-spaced : (ws : List (List ℕ)) → AreWords 96 ws → length ws ≤ 300 → IsSpaced ws
-spaced ws are few = record { most = 96; words = are; few = omega (arith, room_is (length ws), few) }
+-- words of at most 96 bytes, and how many they are
+record AreFew (ws : List (List ℕ)) (n : ℕ) : Type 0 where
+  words : AreWords 96 ws
+  few : length ws ≤ n
 
-keyword : (n : ℕ) (w : List ℕ) → list_all is_ink w ≡ true → length w ≤ n → IsWord n w
-keyword n w bytes few = record { bytes = bytes; few = few }
+no_words : AreFew [] 0
+no_words = record { words = tt; few = omega arith }
 
-of_label : (all : List (List ℕ)) (label : ℕ) → is_label_in all label ≡ true → IsWord 96 (name_word all label)
-of_label all label is = wider 16 96 _ (omega arith) (label_word (name_word all label) is)
+with_word : {most n : ℕ} {w : List ℕ} {ws : List (List ℕ)} → IsWord most w → nat_le most 96 ≡ true → AreFew ws n
+    → AreFew (w ∷ ws) (suc n)
+with_word {most} {n} {w} {ws} is le rest =
+    let small : most ≤ 96 = leb-true most 96 le in
+    let few = rest.few in
+    record { words = (wider most 96 w small is, rest.words); few = omega (arith, few) }
 
-of_number : (n : ℕ) → is_word32 n ≡ true → IsWord 96 (decimal n)
-of_number n is = wider 20 96 _ (omega arith) (word32 n is)
+with_key : {n : ℕ} {k : List ℕ} {ws : List (List ℕ)} → (list_all is_ink k && nat_le (length k) 96) ≡ true → AreFew ws n
+    → AreFew (k ∷ ws) (suc n)
+with_key {n} {k} {ws} is rest = with_word (closed 96 k is) refl rest
 
-of_small : (n : ℕ) → is_word16 n ≡ true → IsWord 96 (decimal n)
-of_small n is = wider 20 96 _ (omega arith) (word16 n is)
+at_most : {m : ℕ} {ws : List (List ℕ)} (n : ℕ) → AreFew ws m → m ≤ n → AreFew ws n
+at_most n are le = let few = are.few in record { words = are.words; few = omega (arith, few, le) }
+
+spaced : {n : ℕ} {ws : List (List ℕ)} → AreFew ws n → n ≤ 300 → IsSpaced ws
+spaced {n} {ws} are le =
+    let few = are.few in
+    record { most = 96; words = are.words; few = omega (arith, room_is (length ws), few, le) }
+
+of_number : (n : ℕ) → is_word32 n ≡ true → IsWord 20 (decimal n)
+of_number n is = let small : n < 2 ^ 32 = ltb-true n (2 ^ 32) is in number_word n (omega (arith, small))
+
+of_small : (n : ℕ) → is_word16 n ≡ true → IsWord 20 (decimal n)
+of_small n is = let small : n < 2 ^ 16 = ltb-true n (2 ^ 16) is in number_word n (omega (arith, small))
 
 pixels : (f : Format) (ps : List ℕ) → AreWords 96 (map (pixel_word f) ps)
 pixels f [] = tt
 pixels f (p ∷ ps) = (wider 8 96 _ (omega arith) (pixel f p), pixels f ps)
 
--- words, and how many they are
-record AreFew (ws : List (List ℕ)) (n : ℕ) : Type 0 where
-  words : AreWords 96 ws
-  few : length ws ≤ n
-
 pattern : (f : Format) (width height : ℕ) (p : Pattern) → is_pattern_of f width height p ≡ true → AreFew (pattern_words f p) 257
-pattern f width height (Solid p) is = record
-    { words = (keyword 96 _ refl (omega arith), (wider 8 96 _ (omega arith) (pixel f p), tt)); few = omega arith }
+pattern f width height (Solid p) is = at_most 257 (with_key refl (with_word (pixel f p) refl no_words)) (omega arith)
 pattern f width height (Checker p q n) is =
-    let first = and_parts _ _ is in
-    let second = and_parts _ _ first.1 in
+    let first = and_parts (is_pixel_of f p) (is_pixel_of f q && between 1 4096 n) is in
+    let second = and_parts (is_pixel_of f q) (between 1 4096 n) first.1 in
     let size = and_parts (nat_le 1 n) (nat_le n 4096) second.1 in
     let le : n ≤ 4096 = leb-true n 4096 size.1 in
-    record {
-      words = (
-        keyword 96 _ refl (omega arith),
-        (
-          wider 8 96 _ (omega arith) (pixel f p),
-          (wider 8 96 _ (omega arith) (pixel f q), (wider 20 96 _ (omega arith) (number_word n (omega (arith, le))), tt)),
-        ),
-      );
-      few = omega arith;
-    }
-pattern f width height Ramp is = record { words = (keyword 96 _ refl (omega arith), tt); few = omega arith }
+    at_most 257 (with_key refl (with_word (pixel f p) refl (with_word (pixel f q) refl
+    (with_word (number_word n (omega (arith, le))) refl no_words)))) (omega arith)
+pattern f width height Ramp is = at_most 257 (with_key refl no_words) (omega arith)
 pattern f width height (Pixels ps) is =
     let first = and_parts (between 1 256 (width * height)) _ is in
     let second = and_parts (length ps == width * height) _ first.1 in
@@ -285,24 +270,27 @@ pattern f width height (Pixels ps) is =
     let le : width * height ≤ 256 = leb-true (width * height) 256 size.1 in
     let count : length ps ≡ width * height = eqb-true (length ps) (width * height) second.0 in
     let many : length ps ≤ 256 = rw count le in
-    record { words = (keyword 96 _ refl (omega arith), pixels f ps); few = omega (arith, length-map ps (pixel_word f), many) }
+    let all : AreFew (map (pixel_word f) ps) 256 =
+    record { words = pixels f ps; few = omega (arith, length-map ps (pixel_word f), many) } in
+    with_key refl all
 
-five : (a b c d e : ℕ) → are_words16 a b c d e ≡ true
-    → IsWord 96 (decimal a) × IsWord 96 (decimal b) × IsWord 96 (decimal c) × IsWord 96 (decimal d) × IsWord 96 (decimal e)
-five a b c d e is =
+-- numbers of 16 bits before more words
+with_five : {n : ℕ} {ws : List (List ℕ)} (a b c d e : ℕ) → are_words16 a b c d e ≡ true → AreFew ws n
+    → AreFew (decimal a ∷ decimal b ∷ decimal c ∷ decimal d ∷ decimal e ∷ ws) (suc (suc (suc (suc (suc n)))))
+with_five a b c d e is rest =
     let p = and_parts (is_word16 a) _ is in
     let q = and_parts (is_word16 b) _ p.1 in
     let r = and_parts (is_word16 c) _ q.1 in
     let s = and_parts (is_word16 d) (is_word16 e) r.1 in
-    (of_small a p.0, of_small b q.0, of_small c r.0, of_small d s.0, of_small e s.1)
+    with_word (of_small a p.0) refl (with_word (of_small b q.0) refl (with_word (of_small c r.0) refl (with_word (of_small d s.0) refl
+    (with_word (of_small e s.1) refl rest))))
 
-mode_name : (name : List ℕ) → is_mode_name name ≡ true → IsWord 96 (until 0 name)
+mode_name : (name : List ℕ) → is_mode_name name ≡ true → IsWord 31 (until 0 name)
 mode_name name is =
     let p = and_parts (between 1 31 (length (until 0 name))) _ is in
     let q = and_parts (list_all is_name_byte (until 0 name)) _ p.1 in
     let size = and_parts (nat_le 1 (length (until 0 name))) (nat_le (length (until 0 name)) 31) p.0 in
-    let le : length (until 0 name) ≤ 31 = leb-true (length (until 0 name)) 31 size.1 in
-    record { bytes = each is_name_byte is_ink name_ink (until 0 name) q.0; few = omega (arith, le) }
+    record { bytes = each is_name_byte is_ink name_ink (until 0 name) q.0; few = leb-true (length (until 0 name)) 31 size.1 }
 
 mode_words : (m : Mode) → has_widths m ≡ true → is_mode_name m.name ≡ true → AreFew (spelt_mode m) 15
 mode_words m is name =
@@ -311,55 +299,15 @@ mode_words m is name =
     let v = and_parts (are_words16 m.vdisplay m.vsync_start m.vsync_end m.vtotal m.vscan) _ h.1 in
     let rate = and_parts (is_word32 m.vrefresh) _ v.1 in
     let last = and_parts (is_word32 m.flags) (is_word32 m.kind) rate.1 in
-    let hs = five m.hdisplay m.hsync_start m.hsync_end m.htotal m.hskew h.0 in
-    let vs = five m.vdisplay m.vsync_start m.vsync_end m.vtotal m.vscan v.0 in
-    record {
-      words = (
-        of_number m.clock clock.0,
-        (
-          hs.0,
-          (
-            hs.1,
-            (
-              hs.2,
-              (
-                hs.3,
-                (
-                  hs.4,
-                  (
-                    vs.0,
-                    (
-                      vs.1,
-                      (
-                        vs.2,
-                        (
-                          vs.3,
-                          (
-                            vs.4,
-                            (
-                              of_number m.vrefresh rate.0,
-                              (
-                                of_number m.flags last.0,
-                                (of_number m.kind last.1, (mode_name m.name name, tt)),
-                              ),
-                            ),
-                          ),
-                        ),
-                      ),
-                    ),
-                  ),
-                ),
-              ),
-            ),
-          ),
-        ),
-      );
-      few = omega arith;
-    }
+    with_word (of_number m.clock clock.0) refl
+    (with_five m.hdisplay m.hsync_start m.hsync_end m.htotal m.hskew h.0
+    (with_five m.vdisplay m.vsync_start m.vsync_end m.vtotal m.vscan v.0
+    (with_word (of_number m.vrefresh rate.0) refl (with_word (of_number m.flags last.0) refl (with_word (of_number m.kind last.1) refl
+    (with_word (mode_name m.name name) refl no_words))))))
 
-one_label : (all : List (List ℕ)) (k : List ℕ) (label : ℕ) → list_all is_ink k ≡ true → length k ≤ 96 → is_label_in all label ≡ true
-    → IsSpaced (k ∷ name_word all label ∷ [])
-one_label all k label bytes few is = spaced _ (keyword 96 k bytes few, (of_label all label is, tt)) (omega arith)
+one_label : (all : List (List ℕ)) (k : List ℕ) (label : ℕ) → (list_all is_ink k && nat_le (length k) 96) ≡ true
+    → is_label_in all label ≡ true → IsSpaced (k ∷ name_word all label ∷ [])
+one_label all k label key is = spaced (with_key key (with_word (label_word (name_word all label) is) refl no_words)) (omega arith)
 
 -- the words of a command, of a request with at most 256 assignments
 pub command_spaced : (profile : ℕ) (all : List (List ℕ)) (c : Command) → is_command_in profile all c ≡ true → is_over c ≡ false
@@ -368,24 +316,16 @@ command_spaced profile all (command.Buffer label width height f p) is few =
     let first = and_parts (is_label_in all label) _ is in
     let second = and_parts (is_word32 width) _ first.1 in
     let third = and_parts (is_word32 height) (is_pattern_of f width height p) second.1 in
-    let rest = pattern f width height p third.1 in
-    spaced _ (
-      keyword 96 _ refl (omega arith),
-      (
-        of_label all label first.0,
-        (
-          of_number width second.0,
-          (of_number height third.0, (wider 4 96 _ (omega arith) (format f), rest.words)),
-        ),
-      ),
-    ) (omega (arith, rest.few))
+    spaced (with_key refl (with_word (label_word (name_word all label) first.0) refl (with_word (of_number width second.0) refl
+    (with_word (of_number height third.0) refl (with_word (format f) refl (pattern f width height p third.1)))))) (omega arith)
 command_spaced profile all (command.AddFb label buffer) is few =
     let both = and_parts (is_label_in all label) (is_label_in all buffer) is in
-    spaced _ (keyword 96 _ refl (omega arith), (of_label all label both.0, (of_label all buffer both.1, tt))) (omega arith)
+    spaced (with_key refl (with_word (label_word (name_word all label) both.0) refl
+    (with_word (label_word (name_word all buffer) both.1) refl no_words))) (omega arith)
 command_spaced profile all (command.Mode label m) is few =
     let first = and_parts (is_label_in all label) _ is in
     let second = and_parts (has_widths m) (is_mode_name m.name) first.1 in
-    spaced _ (keyword 96 _ refl (omega arith), (of_label all label first.0, (mode_words m second.0 second.1).words)) (omega arith)
+    spaced (with_key refl (with_word (label_word (name_word all label) first.0) refl (mode_words m second.0 second.1))) (omega arith)
 command_spaced profile all (command.Blob label bytes) is few =
     let first = and_parts (is_label_in all label) _ is in
     let second = and_parts (between 1 2048 (length bytes)) _ first.1 in
@@ -394,7 +334,7 @@ command_spaced profile all (command.Blob label bytes) is few =
     record {
       most = 4096;
       words = (
-        keyword 4096 _ refl (omega arith),
+        closed 4096 _ refl,
         (
           wider 16 4096 _ (omega arith) (label_word (name_word all label) first.0),
           (wider (2 * length bytes) 4096 _ (omega (arith, le)) (blob bytes), tt),
@@ -402,27 +342,21 @@ command_spaced profile all (command.Blob label bytes) is few =
       );
       few = omega arith;
     }
-command_spaced profile all (command.Destroy label) is few = one_label all _ label refl (omega arith) is
-command_spaced profile all (command.CloseFb label) is few = one_label all _ label refl (omega arith) is
-command_spaced profile all (command.Fence label) is few = one_label all _ label refl (omega arith) is
-command_spaced profile all (command.Signal label) is few = one_label all _ label refl (omega arith) is
+command_spaced profile all (command.Destroy label) is few = one_label all _ label refl is
+command_spaced profile all (command.CloseFb label) is few = one_label all _ label refl is
+command_spaced profile all (command.Fence label) is few = one_label all _ label refl is
+command_spaced profile all (command.Signal label) is few = one_label all _ label refl is
 command_spaced profile all (command.Atomic r) is few =
-    let first = and_parts (is_word32 r.flags) _ is in
-    let second = and_parts (nat_lt r.user_data (2 ^ 64)) (list_all (is_assign_in profile all) r.assigns) first.1 in
-    let user : r.user_data < 2 ^ 64 = ltb-true r.user_data (2 ^ 64) second.0 in
+    let of = is_asked profile all r is in
     let count : length r.assigns ≤ 256 = not_many (length r.assigns) few in
-    spaced _ (
-      keyword 96 _ refl (omega arith),
-      (
-        wider 10 96 _ (omega arith) (flags_word r.flags first.0),
-        (wider 20 96 _ (omega arith) (number_word r.user_data user), set_words all profile r.assigns second.1),
-      ),
-    )
-    (omega (arith, length-map r.assigns (assign_word all), count))
+    let sets : AreFew (map (assign_word all) r.assigns) 256 =
+    record { words = set_words all profile r.assigns of.assigns; few = omega (arith, length-map r.assigns (assign_word all), count) } in
+    spaced (with_key refl (with_word (flags_word r.flags of.flags) refl (with_word (number_word r.user_data of.user) refl sets)))
+    (omega arith)
   where
     not_many : (n : ℕ) → nat_lt 256 n ≡ false → n ≤ 256
     not_many n e = grind (arith, nat_tests)
-command_spaced profile all command.Wait is few = spaced _ (keyword 96 _ refl (omega arith), tt) (omega arith)
+command_spaced profile all command.Wait is few = spaced (with_key refl no_words) (omega arith)
 
 -- What such words make a line
 
@@ -431,14 +365,14 @@ pub line_short : (most : ℕ) (w : List ℕ) (ws : List (List ℕ)) → AreWords
 line_short most w [] are = omega (arith, length-append w (10 ∷ []), are.0.few)
 line_short most w (v ∷ vs) are = omega (arith, length-append w (32 ∷ line (v ∷ vs)), are.0.few, line_short most v vs are.1)
 
-words_inner : (most : ℕ) (ws : List (List ℕ)) → AreWords most ws → list_all (list_all is_inner) ws ≡ true
+pub words_inner : (most : ℕ) (ws : List (List ℕ)) → AreWords most ws → list_all (list_all is_inner) ws ≡ true
 words_inner most [] are = refl
-words_inner most (w ∷ ws) are = and_from _ _ (each is_ink is_inner ink_inner w are.0.bytes) (words_inner most ws are.1)
+words_inner most (w ∷ ws) are = and_from _ _ (inner most w are.0) (words_inner most ws are.1)
 
 word_printable : (most : ℕ) (w : List ℕ) → IsWord most w → list_all is_printable w ≡ true
 word_printable most w is = each is_ink is_printable ink_printable w is.bytes
 
-fields_printable : (most : ℕ) (ws : List (List ℕ)) → AreWords most ws → list_all is_printable (fields ws) ≡ true
+pub fields_printable : (most : ℕ) (ws : List (List ℕ)) → AreWords most ws → list_all is_printable (fields ws) ≡ true
 fields_printable most [] are = refl
 fields_printable most (w ∷ ws) are =
     list_all-append is_printable (32 ∷ w) (fields ws) ∙ and_from _ _ (word_printable most w are.0) (fields_printable most ws are.1)
@@ -471,20 +405,13 @@ pub record HasKeyword (all : List (List ℕ)) (c : Command) : Type 0 where
   pub are : command_words all c ≡ keyword ∷ words
 
 pub has_keyword : (all : List (List ℕ)) (c : Command) → HasKeyword all c
-has_keyword all (command.Buffer label width height f p) = record {
-  keyword = codes "buffer";
-  words = name_word all label ∷ decimal width ∷ decimal height ∷ format_word f ∷ pattern_words f p;
-  are = refl;
-}
-has_keyword all (command.AddFb label buffer) = record
-    { keyword = codes "addfb"; words = name_word all label ∷ name_word all buffer ∷ []; are = refl }
-has_keyword all (command.Mode label m) = record { keyword = codes "mode"; words = name_word all label ∷ spelt_mode m; are = refl }
-has_keyword all (command.Blob label bytes) = record
-    { keyword = codes "blob"; words = name_word all label ∷ blob_word bytes ∷ []; are = refl }
-has_keyword all (command.Destroy label) = record { keyword = codes "destroy"; words = name_word all label ∷ []; are = refl }
-has_keyword all (command.CloseFb label) = record { keyword = codes "closefb"; words = name_word all label ∷ []; are = refl }
-has_keyword all (command.Fence label) = record { keyword = codes "fence"; words = name_word all label ∷ []; are = refl }
-has_keyword all (command.Signal label) = record { keyword = codes "signal"; words = name_word all label ∷ []; are = refl }
-has_keyword all (command.Atomic r) = record
-    { keyword = codes "atomic"; words = hex_word r.flags ∷ decimal r.user_data ∷ map (assign_word all) r.assigns; are = refl }
-has_keyword all command.Wait = record { keyword = codes "wait"; words = []; are = refl }
+has_keyword all (command.Buffer label width height f p) = record { keyword = _; words = _; are = refl }
+has_keyword all (command.AddFb label buffer) = record { keyword = _; words = _; are = refl }
+has_keyword all (command.Mode label m) = record { keyword = _; words = _; are = refl }
+has_keyword all (command.Blob label bytes) = record { keyword = _; words = _; are = refl }
+has_keyword all (command.Destroy label) = record { keyword = _; words = _; are = refl }
+has_keyword all (command.CloseFb label) = record { keyword = _; words = _; are = refl }
+has_keyword all (command.Fence label) = record { keyword = _; words = _; are = refl }
+has_keyword all (command.Signal label) = record { keyword = _; words = _; are = refl }
+has_keyword all (command.Atomic r) = record { keyword = _; words = _; are = refl }
+has_keyword all command.Wait = record { keyword = _; words = _; are = refl }

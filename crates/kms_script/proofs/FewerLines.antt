@@ -5,7 +5,6 @@ use Rattle.std.proofs.Common.{arith}
 use Rattle.std.specs.Prelude.{IfOk, nat_lt}
 use Rattle.kms_model.specs.declared.scripts.Part.{Part}
 use Rattle.kms_model.specs.declared.scripts.Part.TheVariants as part
-use Rattle.kms_model.specs.declared.scripts.Script.{Script}
 use Rattle.kms_model.specs.declared.scripts.Why.TheVariants.{Limit}
 use Rattle.kms_model.specs.Script.CommandLines.{unless}
 use Rattle.kms_model.specs.Script.FewerCommands.{input_within, lines_within, within}

@@ -4,7 +4,7 @@ use Rattle.std.proofs.Common.{arith}
 use Rattle.std.specs.Prelude.{◌&&◌, All, not}
 use Rattle.std.specs.List.{AllByRecursion, IsDistinct, list_all}
 use Rattle.std.specs.Str.{bytes_eq}
-use Rattle.std.proofs.lemmas.Bool.{le-leb, lt-ltb}
+use Rattle.std.proofs.lemmas.Bool.{cases_lt, le-leb, lt-ltb}
 use Rattle.kms_model.specs.declared.objects.PlaneInfo.{PlaneInfo}
 use Rattle.kms_model.specs.declared.scripts.Command.{Command}
 use Rattle.kms_model.specs.declared.scripts.Script.{Script}
@@ -37,18 +37,13 @@ legal_plane crtcs p fit = rw (lt-ltb p.crtcs (2 ^ crtcs) fit.crtcs, lt-ltb p.for
 legal_mask : (crtcs mask : ℕ) → IsFitMask crtcs mask → is_mask_below crtcs mask ≡ true
 legal_mask crtcs mask lt = rw (lt-ltb mask (2 ^ crtcs) lt) refl
 
-early_or_late : (n : ℕ) → (n < 2) ⊎ (2 ≤ n)
-early_or_late zero = inl (omega arith)
-early_or_late (suc zero) = inl (omega arith)
-early_or_late (suc (suc n)) = inr (omega arith)
-
 late_head : (d : Draft) → IsFitDevice d → 0 < length d.conns → (d.head < 2) ⊎ (2 ≤ d.head) → 2 ≤ d.head
 late_head d fit some (inl early) = absurd (omega (arith, fit.no_conns early))
 late_head d fit some (inr late) = late
 
 legal_device : (d : Draft) → IsFitDevice d → 0 < length d.conns → is_legal_device (topology_in d) ≡ true
 legal_device d fit some =
-    let count : IsFitCount d.crtcs = fit.crtcs (late_head d fit some (early_or_late d.head)) in
+    let count : IsFitCount d.crtcs = fit.crtcs (late_head d fit some (cases_lt d.head 2)) in
     let crtcs : between 1 4 d.crtcs ≡ true = is_between 1 4 d.crtcs count.some count.few in
     let planes : between 1 16 (length d.planes) ≡ true = is_between 1 16 (length d.planes) (omega (arith, fit.some_planes some))
     fit.few_planes in

@@ -1,11 +1,9 @@
 -- The lines of a commit and of the wait for its event are read as these commands.
-use Rattle.std.proofs.Common.{◌≡◌, ℕ, zero, suc, ◌<◌, ◌≤◌, ◌%◌, ◌/◌, Bool, true, false, List, [], ◌∷◌, ◌++◌, map, Some, refl, ◌∙◌, codes}
-use Rattle.std.proofs.Common.{arith}
+use Rattle.std.proofs.Common.{◌≡◌, ℕ, zero, suc, ◌<◌, ◌≤◌, ◌%◌, ◌/◌, Bool, true, false, List, [], ◌∷◌, ◌++◌, map, Some, refl, codes, arith}
 use Rattle.std.specs.Prelude.{◌==◌, if◌then◌else◌, pos}
-use Rattle.std.specs.Fmt.{decimal}
+use Rattle.std.specs.Fmt.{decimal, digits}
+use Rattle.kms_script.proofs.RequestsBack.{line_read}
 use Rattle.std.specs.List.{list_all}
-use Rattle.std.proofs.lemmas.Bool.{and_from, and_parts}
-use Rattle.std.proofs.lemmas.List.Folds.{list_all-append}
 use Rattle.kms_model.specs.declared.flags.TheConstants.{PAGE_FLIP_EVENT}
 use Rattle.kms_model.specs.declared.objects.Kind.{Kind}
 use Rattle.kms_model.specs.declared.objects.Kind.TheVariants.{Plane}
@@ -16,16 +14,13 @@ use Rattle.kms_model.specs.declared.scripts.Command.TheVariants.{Atomic}
 use Rattle.kms_model.specs.declared.scripts.PropRef.TheVariants.{Known}
 use Rattle.kms_model.specs.declared.scripts.Value.{Value}
 use Rattle.kms_model.specs.declared.scripts.Value.TheVariants.{Num, Named}
-use Rattle.kms_model.specs.Script.CommandLines.{Names, assign_read, assign_words, assigns_read, atomic_read, command_read, property_read}
-use Rattle.kms_model.specs.Script.CommandLines.{value_read}
+use Rattle.kms_model.specs.Script.CommandLines.{Names, assign_read, assign_words, assigns_read, command_read, property_read, value_read}
 use Rattle.kms_model.specs.Script.Generated.{Drawn, drawn_framebuffer, framebuffer_f, framebuffer_h, names_of_client, on_plane}
-use Rattle.kms_model.specs.Script.Grammar.{hex, is_printable}
-use Rattle.kms_model.specs.Script.Words.{is_digit}
+use Rattle.kms_model.specs.Script.Grammar.{is_printable}
 use Rattle.kms_model.proofs.OnScripts.{on_scripts}
 use Rattle.kms_words.specs.Printed.{fields}
-use Rattle.kms_script.proofs.Decimals.{decimal_digits}
-use Rattle.kms_script.proofs.StepTexts.{digit_plain}
-use Rattle.kms_script.proofs.Cutting.{each, field_of, is_inner, number_inner, number_of, number_value, words_of_fields}
+use Rattle.kms_script.proofs.CommandWords.{AreWords, IsWord, behind, closed, fields_printable, number_word, wider, words_inner}
+use Rattle.kms_script.proofs.Cutting.{number_value}
 
 -- an assignment, of its parts
 set_read : (names : Names) (word given prop : List ℕ) (kind : Kind) (index id : ℕ) (v : Value)
@@ -36,19 +31,6 @@ unfolding assign_read
 set_read names word given prop kind index id v parts of_prop of_value = rw (parts, of_prop, of_value) refl
 
 -- Requests
-
-request_read : (names : Names) (index : ℕ) (ws : List (List ℕ)) (sets : List Assign) → index ≤ 18446744073709551615
-    → list_all (list_all is_inner) ws ≡ true → assigns_read names ws ≡ Some (sets, names)
-    → atomic_read names (fields (codes "0x1" ∷ decimal index ∷ ws))
-    ≡ Some (Atomic (record { flags = PAGE_FLIP_EVENT; user_data = index; assigns = sets }), names)
-unfolding atomic_read hex
-request_read names index ws sets le inner given =
-    rw (
-      field_of (codes "0x1") (decimal index ∷ ws) refl,
-      number_of 18446744073709551615 index ws (omega arith) le,
-      words_of_fields ws inner,
-      given,
-    ) refl
 
 three_read : (names : Names) (u v w : List ℕ) (a b c : Assign) → assign_read names u ≡ Some (a, names)
     → assign_read names v ≡ Some (b, names) → assign_read names w ≡ Some (c, names)
@@ -157,53 +139,33 @@ sets_read crtc d lt =
 
 -- Bytes
 
-module _ (p : ℕ → Bool) (digits : (n : ℕ) → n ≤ 18446744073709551615 → list_all p (decimal n) ≡ true) where
-  -- what holds of the bytes of each assignment
-  sets_pass : (crtc : ℕ) (d : Drawn) → list_all p (shows crtc (d.number % 2 == 0)) ≡ true → list_all p (fades crtc) ≡ true
-      → list_all p (moves crtc) ≡ true → list_all (list_all p) (set_words crtc d) ≡ true
-  sets_pass crtc d show fade move =
-      let faded = list_all-append p (fades crtc) (decimal (alpha d)) ∙ and_from _ _ fade (digits (alpha d) (alpha_small d)) in
-      let moved = list_all-append p (moves crtc) (decimal (left d)) ∙ and_from _ _ move (digits (left d) (left_small d)) in
-      rw (show, faded, moved) refl
+show_word : (crtc : ℕ) → crtc < 2 → (even : Bool) → IsWord 40 (shows crtc even)
+show_word crtc lt true = by_crtc (λ c. IsWord 40 (shows c true)) (closed 40 _ refl) (closed 40 _ refl) crtc lt
+show_word crtc lt false = by_crtc (λ c. IsWord 40 (shows c false)) (closed 40 _ refl) (closed 40 _ refl) crtc lt
 
--- a word of a commit has no blank, and each byte of it can be printed
-abbrev passes_both : List ℕ → Type 0
-passes_both word = (list_all is_inner word ≡ true) × (list_all is_printable word ≡ true)
-
-shows_pass : (crtc : ℕ) → crtc < 2 → (even : Bool) → passes_both (shows crtc even)
-shows_pass crtc lt true = by_crtc (λ c. passes_both (shows c true)) (refl, refl) (refl, refl) crtc lt
-shows_pass crtc lt false = by_crtc (λ c. passes_both (shows c false)) (refl, refl) (refl, refl) crtc lt
-
-fades_pass : (crtc : ℕ) → crtc < 2 → passes_both (fades crtc)
-fades_pass crtc lt = by_crtc (λ c. passes_both (fades c)) (refl, refl) (refl, refl) crtc lt
-
-moves_pass : (crtc : ℕ) → crtc < 2 → passes_both (moves crtc)
-moves_pass crtc lt = by_crtc (λ c. passes_both (moves c)) (refl, refl) (refl, refl) crtc lt
-
-sets_inner : (crtc : ℕ) (d : Drawn) → crtc < 2 → list_all (list_all is_inner) (set_words crtc d) ≡ true
-sets_inner crtc d lt =
-    let show = shows_pass crtc lt (d.number % 2 == 0) in
-    sets_pass is_inner (λ n le. number_inner n (omega (arith, le))) crtc d show.0 (fades_pass crtc lt).0 (moves_pass crtc lt).0
-
-number_plain : (n : ℕ) → n ≤ 18446744073709551615 → list_all is_printable (decimal n) ≡ true
-number_plain n le = each is_digit is_printable digit_plain (decimal n) (decimal_digits n (omega (arith, le)))
-
-fields_plain : (ws : List (List ℕ)) → list_all (list_all is_printable) ws ≡ true → list_all is_printable (fields ws) ≡ true
-fields_plain [] all = refl
-fields_plain (w ∷ ws) all =
-    let p = and_parts (list_all is_printable w) (list_all (list_all is_printable) ws) all in
-    list_all-append is_printable w (fields ws) ∙ and_from _ _ p.0 (fields_plain ws p.1)
+words_of_sets : (crtc : ℕ) (d : Drawn) → crtc < 2 → AreWords 40 (set_words crtc d)
+words_of_sets crtc d lt =
+    let fade = by_crtc (λ c. IsWord 20 (fades c)) (closed 20 _ refl) (closed 20 _ refl) crtc lt in
+    let move = by_crtc (λ c. IsWord 20 (moves c)) (closed 20 _ refl) (closed 20 _ refl) crtc lt in
+    let alpha_few = alpha_small d in
+    let left_few = left_small d in (
+      show_word crtc lt (d.number % 2 == 0),
+      (
+        behind 20 20 (fades crtc) (decimal (alpha d)) fade (number_word (alpha d) (omega (arith, alpha_few))),
+        (behind 20 20 (moves crtc) (decimal (left d)) move (number_word (left d) (omega (arith, left_few))), tt),
+      ),
+    )
 
 -- each byte of a commit's line can be printed
 pub flip_plain : (crtc : ℕ) (d : Drawn) → crtc < 2 → d.index ≤ 18446744073709551615 → list_all is_printable (flip_text crtc d) ≡ true
 flip_plain crtc d lt le =
-    let show = shows_pass crtc lt (d.number % 2 == 0) in
-    let sets = sets_pass is_printable number_plain crtc d show.1 (fades_pass crtc lt).1 (moves_pass crtc lt).1 in
-    fields_plain (codes "0x1" ∷ decimal d.index ∷ set_words crtc d) (rw (number_plain d.index le, sets) refl)
+    fields_printable 40 (codes "0x1" ∷ decimal d.index ∷ set_words crtc d)
+    (closed 40 _ refl, (wider 20 40 _ (omega arith) (number_word d.index (omega (arith, le))), words_of_sets crtc d lt))
 
 -- the line of a commit
 pub flip_read : (crtc : ℕ) (d : Drawn) → crtc < 2 → d.index ≤ 18446744073709551615
     → command_read (names_before crtc) (flip_text crtc d) ≡ Some (commit crtc d, names_before crtc)
-unfolding command_read
+unfolding digits
 flip_read crtc d lt le =
-    request_read (names_before crtc) d.index (set_words crtc d) (sets crtc d) le (sets_inner crtc d lt) (sets_read crtc d lt)
+    line_read (names_before crtc) (names_before crtc) PAGE_FLIP_EVENT d.index (set_words crtc d) (sets crtc d) (omega arith) le
+    (words_inner 40 (set_words crtc d) (words_of_sets crtc d lt)) (sets_read crtc d lt)

@@ -1,16 +1,15 @@
 -- Hexadecimal numbers are read as they were written.
-use Rattle.std.proofs.Common.{◌≡◌, ℕ, zero, suc, ◌+◌, ◌*◌, ◌/◌, ◌%◌, ◌<◌, ◌≤◌, ◌^◌, Bool, true, false, List, [], ◌∷◌, ◌++◌, codes, length}
+use Rattle.std.proofs.Common.{[], ◌≡◌, ℕ, zero, suc, ◌+◌, ◌*◌, ◌/◌, ◌%◌, ◌<◌, ◌≤◌, ◌^◌, Bool, true, false, List, ◌∷◌, ◌++◌, codes, length}
 use Rattle.std.proofs.Common.{length-append, cond, append-nil, append_assoc, Some, refl, sym, ap, ◌∙◌, arith}
-use Rattle.std.specs.Prelude.{nat_le, nat_lt, ◌==◌, not}
+use Rattle.std.specs.Prelude.{nat_le, ◌==◌}
 use Rattle.std.specs.Fmt.{digits, digits_onto, digit_glyph}
 use Rattle.std.specs.List.{list_all}
-use Rattle.std.proofs.lemmas.Bool.{and_from, eqb-true, eqb-false, le-leb, ltb-true, ltb-false, ne_eqb, eq-eqb, true≢false}
+use Rattle.std.proofs.lemmas.Bool.{and_from, eqb-true, eqb-false, le-leb, ne_eqb, eq-eqb}
 use Rattle.std.proofs.lemmas.Bool.Decides.{nat_tests}
 use Rattle.std.proofs.lemmas.List.Folds.{list_all-append}
 use Rattle.kms_model.specs.Script.Grammar.{hex}
 use Rattle.kms_model.specs.Script.Spelling.{hex_word}
-use Rattle.kms_model.specs.Script.Words.{between, hex_from, hex_value, is_digit, is_hex}
-use Rattle.kms_script.proofs.Cutting.{each, is_inner}
+use Rattle.kms_model.specs.Script.Words.{hex_from, hex_value, is_hex}
 
 -- a digit is read as it was written
 pub record IsGlyph (d : ℕ) : Type 0 where
@@ -18,35 +17,12 @@ pub record IsGlyph (d : ℕ) : Type 0 where
   pub value : hex_value (digit_glyph false d) ≡ d
   pub first : 0 < d → digit_glyph false d ≡ 48 → ⊥
 
-low_digit : (d : ℕ) → d < 10 → is_digit (48 + d) ≡ true
-low_digit d lt = rw (le-leb 48 (48 + d) (omega arith), le-leb (48 + d) 57 (omega arith)) refl
-
-high_digit : (d : ℕ) → 10 ≤ d → is_digit (87 + d) ≡ false
-high_digit d low = grind (arith, nat_tests)
-
-high_letter : (d : ℕ) → 10 ≤ d → d < 16 → between 97 102 (87 + d) ≡ true
-high_letter d low lt = rw (le-leb 97 (87 + d) (omega arith), le-leb (87 + d) 102 (omega arith)) refl
-
 pub glyph : (d : ℕ) → d < 16 → IsGlyph d
-glyph d lt = by (nat_lt d 10) refl
-  where
-    by : (t : Bool) → nat_lt d 10 ≡ t → IsGlyph d
-    by true is =
-        let low : d < 10 = ltb-true d 10 is in
-        record {
-          is = rw (is, low_digit d low) refl;
-          value = rw (is, low_digit d low) (omega arith);
-          first = λ some. rw is
-              (λ e. omega (arith, some, e));
-        }
-    by false is =
-        let high : 10 ≤ d = ltb-false d 10 is in
-        record {
-          is = rw (is, high_digit d high, high_letter d high lt) refl;
-          value = rw (is, high_digit d high)
-              (omega arith);
-          first = λ some. rw is (λ e. omega (arith, high, e));
-        }
+glyph d lt = record {
+  is = grind (arith, nat_tests);
+  value = grind (arith, nat_tests);
+  first = λ some same. grind (arith, nat_tests);
+}
 
 -- digits that were written in front of others, and the number that they are
 pub record IsWritten (j n : ℕ) (acc ds : List ℕ) : Type 0 where
@@ -130,20 +106,3 @@ pub hex_read : (n : ℕ) → n < 2 ^ 32 → hex (hex_word n) ≡ Some n
 unfolding hex digits
 hex_read zero small = refl
 hex_read (suc n) small = hex_of (suc n) (digits 16 false (suc n)) (omega arith) (all_written (suc n) small)
-
--- no digit is a blank
-
-hex_byte_inner : (b : ℕ) → is_hex b ≡ true → is_inner b ≡ true
-hex_byte_inner b is = by (b == 32) refl
-  where
-    by : (t : Bool) → (b == 32) ≡ t → not t ≡ true
-    by true e = let same : b ≡ 32 = eqb-true b 32 e in absurd (true≢false (sym is ∙ ap is_hex same))
-    by false e = refl
-
-digits_inner : (n : ℕ) (ds : List ℕ) → IsWritten 7 n [] ds → list_all is_inner (codes "0x" ++ ds) ≡ true
-digits_inner n ds w =
-    let all : ds ≡ w.first ∷ w.rest = w.whole ∙ ap (λ (xs : List ℕ). w.first ∷ xs) (append-nil w.rest) in
-    rw all (each is_hex is_inner hex_byte_inner (w.first ∷ w.rest) w.hexes)
-
-pub hex_inner : (n : ℕ) → n < 2 ^ 32 → list_all is_inner (hex_word n) ≡ true
-hex_inner n small = digits_inner n (digits 16 false n) (all_written n small)

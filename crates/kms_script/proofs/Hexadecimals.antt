@@ -1,19 +1,19 @@
 -- Hexadecimal digits that were read are written again.
 use Rattle.std.proofs.Common.{◌≡◌, ℕ, suc, ◌+◌, ◌-◌, ◌*◌, ◌/◌, ◌%◌, ◌≤◌, ◌<◌, Bool, true, false, List, [], ◌∷◌, ◌++◌, length, cond}
 use Rattle.std.proofs.Common.{append-nil, append_assoc, Some, refl, sym, ap, ◌∙◌, arith}
-use Rattle.std.specs.Prelude.{nat_le, ◌&&◌, ◌||◌, ◌==◌, codes}
+use Rattle.std.specs.Prelude.{nat_le, ◌&&◌, ◌==◌, codes}
 use Rattle.std.specs.Fmt.{digits, digits_onto, digit_glyph}
 use Rattle.std.specs.List.{list_all}
-use Rattle.std.proofs.lemmas.Bool.{and_parts, leb-true, lt-ltb, le-ltb, eqb-true, eqb-false, eq-eqb, ne_eqb}
+use Rattle.std.proofs.lemmas.Bool.Decides.{nat_tests}
+use Rattle.std.proofs.lemmas.Bool.{and_parts, leb-true, eqb-true, eqb-false, eq-eqb, ne_eqb}
 use Rattle.std.proofs.lemmas.Fmt.{hex_one_digit}
 use Rattle.std.proofs.lemmas.List.{nil_from_length}
 use Rattle.kms_model.specs.declared.objects.Format.{Format}
 use Rattle.kms_model.specs.Script.Grammar.{digits_of, is_hex_number, hex, pixel_number, hex_pair, hex_bytes}
-use Rattle.kms_model.specs.Script.Words.{is_digit, is_hex, hex_value, hex_from}
+use Rattle.kms_model.specs.Script.Words.{strip, is_hex, hex_value, hex_from}
 use Rattle.kms_model.specs.Script.Spelling.{hex_word, hex_digits, pixel_word, blob_word}
 use Rattle.kms_script.proofs.Inverted.{bind_some, if_some, some_same}
 use Rattle.kms_script.proofs.LineFields.{strip_spelt}
-use Rattle.kms_script.proofs.ReadParts.{hex_parts}
 
 -- a digit is written as it was read
 record IsGlyph (b value : ℕ) : Type 0 where
@@ -21,22 +21,9 @@ record IsGlyph (b value : ℕ) : Type 0 where
   glyph : digit_glyph false value ≡ b
   first : value ≡ 0 → b ≡ 48
 
-glyph_step : (t : Bool) (b : ℕ) → (nat_le 48 b && nat_le b 57) ≡ t → (t || (nat_le 97 b && nat_le b 102)) ≡ true
-    → IsGlyph b (cond t (b - 48) (b - 87))
-glyph_step true b is h =
-    let parts = and_parts (nat_le 48 b) (nat_le b 57) is in
-    let low : 48 ≤ b = leb-true 48 b parts.0 in
-    let high : b ≤ 57 = leb-true b 57 parts.1 in
-    record { small = omega arith; glyph = rw (lt-ltb (b - 48) 10 (omega arith)) (omega arith); first = λ z. omega arith }
-glyph_step false b is h =
-    let parts = and_parts (nat_le 97 b) (nat_le b 102) h in
-    let low : 97 ≤ b = leb-true 97 b parts.0 in
-    let high : b ≤ 102 = leb-true b 102 parts.1 in
-    record { small = omega arith; glyph = rw (le-ltb (b - 87) 10 (omega arith)) (omega arith); first = λ z. omega arith }
-
 -- each hexadecimal digit
 glyph_of : (b : ℕ) → is_hex b ≡ true → IsGlyph b (hex_value b)
-glyph_of b h = glyph_step (is_digit b) b refl h
+glyph_of b h = record { small = grind (arith, nat_tests); glyph = grind (arith, nat_tests); first = λ z. grind (arith, nat_tests) }
 
 -- a number with one digit more, taken apart again
 shifted : (n d : ℕ) → d < 16 → ((n * 16 + d) / 16 ≡ n) × ((n * 16 + d) % 16 ≡ d)
@@ -101,6 +88,22 @@ number_step false d ds is h few =
 number_spelt : (ds : List ℕ) → is_hex_number ds ≡ true → length ds ≤ 8 → digits 16 false (hex_from 0 ds) ≡ ds
 number_spelt [] h few = absurd cc
 number_spelt (d ∷ ds) h few = number_step (d == 48) d ds refl h (omega arith)
+
+-- a number of hexadecimal digits
+pub record IsHex (word : List ℕ) (n : ℕ) : Type 0 where
+  pub digits : List ℕ
+  pub given : strip (codes "0x") word ≡ Some digits
+  pub few : nat_le (length digits) 8 ≡ true
+  pub number : is_hex_number digits ≡ true
+  pub makes : hex_from 0 digits ≡ n
+
+pub hex_parts : (word : List ℕ) (n : ℕ) → hex word ≡ Some n → IsHex word n
+unfolding hex
+hex_parts word n e =
+    let b = bind_some (strip (codes "0x") word) _ n e in
+    let read = if_some (nat_le (length b.value) 8 && is_hex_number b.value) (Some (hex_from 0 b.value)) n b.then in
+    let parts = and_parts (nat_le (length b.value) 8) (is_hex_number b.value) read.0 in
+    record { digits = b.value; given = b.given; few = parts.0; number = parts.1; makes = some_same (hex_from 0 b.value) n read.1 }
 
 -- `0x` and a number
 pub hex_spelt : (n : ℕ) (word : List ℕ) → hex word ≡ Some n → hex_word n ≡ word

@@ -1,11 +1,12 @@
 -- The labels that assignments make, and what names are after them.
-use Rattle.std.proofs.Common.{◌≡◌, ℕ, ◌+◌, suc, Bool, true, false, if◌then◌else◌, List, [], ◌∷◌, ◌++◌, length, cond, Option, Some, None}
-use Rattle.std.proofs.Common.{refl, sym, ◌∙◌, arith}
+use Rattle.std.proofs.Common.{◌≡◌, ℕ, suc, Bool, true, false, if◌then◌else◌, List, [], ◌∷◌, ◌++◌, length, cond, Option, Some, None, ap}
+use Rattle.std.proofs.Common.{refl, sym, ◌∙◌}
 use Rattle.std.specs.Prelude.{◌||◌, codes, option_map, ⊤}
 use Rattle.std.specs.Cmp.Lexicographic.{nat_list_eq_equiv}
 use Rattle.std.specs.List.{list_any}
 use Rattle.std.specs.Option.{option_map_or}
 use Rattle.std.specs.Str.{bytes_eq}
+use Rattle.std.proofs.lemmas.Bool.{true≢false}
 use Rattle.std.proofs.lemmas.Slice.Eq.{bytes_eq-Decides}
 use Rattle.kms_model.specs.declared.objects.Kind.{Kind}
 use Rattle.kms_model.specs.declared.scripts.Assign.{Assign}
@@ -17,7 +18,7 @@ use Rattle.kms_model.specs.Script.Grammar.{int, known_property}
 use Rattle.kms_model.specs.Script.Words.{◌>>=◌, dec, is_label, strip}
 use Rattle.kms_model.proofs.Facts.{or-assoc}
 use Rattle.kms_script.specs.Overlong.{assign_label, label_and, labels_made, value_label}
-use Rattle.kms_script.proofs.SpeltAssigns.{prop_of}
+use Rattle.kms_script.proofs.EachCommand.{prop_of}
 
 -- What is made
 
@@ -47,10 +48,7 @@ made_step true w v n ns after e ih = let same : v ≡ n.word = (bytes_eq-Decides
 made_step false w v n ns after e ih = rw ih (there (bytes_eq w n.word) (bytes_eq w v) n.is_made (was_made w ns) apart)
   where
     there : (s t m was : Bool) → (s ≡ true → t ≡ false) → cond s m (t || was) ≡ (t || cond s m was)
-    there true true m was other = absurd (differ (other refl))
-      where
-        differ : true ≡ false → ⊥
-        differ e = cc
+    there true true m was other = absurd (true≢false (other refl))
     there true false m was other = refl
     there false t m was other = refl
 
@@ -220,7 +218,7 @@ label_holds names after seen label makes holds = λ w. makes.was w ∙ rw (holds
 row_step : (names : Names) (seen : List (List ℕ)) (count : ℕ) (a : Assign × Names) (label : Option (List ℕ))
     (read : Option (List Assign × Names)) (labels : Option (List (List ℕ))) → Makes names label a.1 → Holds names seen
     → ((next : List (List ℕ)) → Holds a.1 next → AllAgree read a.1 next count labels)
-    → AllAgree (read >>= (λ more. Some (a.0 ∷ more.0, more.1))) names seen (count + 1) (labels >>= (λ ls. Some (label_and label ls)))
+    → AllAgree (read >>= (λ more. Some (a.0 ∷ more.0, more.1))) names seen (suc count) (labels >>= (λ ls. Some (label_and label ls)))
 row_step names seen count a None None None makes holds ih = tt
 row_step names seen count a (Some label) None None makes holds ih = tt
 row_step names seen count a None None (Some ls) makes holds ih = ih seen (λ w. makes.was w ∙ holds w)
@@ -231,21 +229,15 @@ row_step names seen count a (Some label) (Some more) None makes holds ih =
     ih (seen ++ label ∷ []) (label_holds names a.1 seen label makes holds)
 row_step names seen count a None (Some more) (Some ls) makes holds ih =
     let h = ih seen (λ w. makes.was w ∙ holds w) in
-    (h.0 ∙ rw (makes.twice, ← or_none names.is_twice) refl, rw (add_one (length more.0), h.1) refl)
-  where
-    add_one : (n : ℕ) → suc n ≡ n + 1
-    add_one n = omega arith
+    (h.0 ∙ rw (makes.twice, ← or_none names.is_twice) refl, ap suc h.1)
 row_step names seen count a (Some label) (Some more) (Some ls) makes holds ih =
     let h = ih (seen ++ label ∷ []) (label_holds names a.1 seen label makes holds) in
-    (label_step names a.1 seen label ls more.1.is_twice makes holds h.0, rw (add_one (length more.0), h.1) refl)
-  where
-    add_one : (n : ℕ) → suc n ≡ n + 1
-    add_one n = omega arith
+    (label_step names a.1 seen label ls more.1.is_twice makes holds h.0, ap suc h.1)
 
 first_step : (names : Names) (seen : List (List ℕ)) (ws : List (List ℕ)) (o : Option (Assign × Names)) (label : Option (Option (List ℕ)))
     → Agrees o names label → Holds names seen
     → ((after : Names) (next : List (List ℕ)) → Holds after next → AllAgree (assigns_read after ws) after next (length ws) (labels_made ws))
-    → AllAgree (o >>= (λ a. assigns_read a.1 ws >>= (λ more. Some (a.0 ∷ more.0, more.1)))) names seen (length ws + 1)
+    → AllAgree (o >>= (λ a. assigns_read a.1 ws >>= (λ more. Some (a.0 ∷ more.0, more.1)))) names seen (suc (length ws))
     (label >>= (λ l. labels_made ws >>= (λ ls. Some (label_and l ls))))
 first_step names seen ws None None agrees holds ih = tt
 first_step names seen ws None (Some l) agrees holds ih = absurd agrees
@@ -256,9 +248,6 @@ first_step names seen ws (Some a) (Some l) agrees holds ih =
 pub assigns_agree : (ws : List (List ℕ)) (names : Names) (seen : List (List ℕ)) → Holds names seen
     → AllAgree (assigns_read names ws) names seen (length ws) (labels_made ws)
 assigns_agree [] names seen holds = (or_none names.is_twice, refl)
-assigns_agree (w ∷ ws) names seen holds = rw (add_one (length ws))
+assigns_agree (w ∷ ws) names seen holds =
     (first_step names seen ws (assign_read names w) (assign_label w) (assign_agrees names w) holds
     (λ after next h. assigns_agree ws after next h))
-  where
-    add_one : (n : ℕ) → suc n ≡ n + 1
-    add_one n = omega arith

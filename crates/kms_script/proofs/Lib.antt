@@ -1,5 +1,6 @@
 pub mod Accepted
 pub mod Alone
+pub mod AssignParts
 pub mod CommandWords
 pub mod Cutting
 pub mod Decimals
@@ -7,6 +8,8 @@ pub mod DeviceLines
 pub mod DraftGrows
 pub mod DraftText
 pub mod Drafts
+pub mod EachCommand
+pub mod EachLine
 pub mod FewerLines
 pub mod FitCommands
 pub mod FitScripts
@@ -37,7 +40,6 @@ pub mod NamesBegin
 pub mod OneSpelling
 pub mod ProfileStays
 pub mod ReadBack
-pub mod ReadParts
 pub mod Repeated
 pub mod RequestsBack
 pub mod RowsAgain
@@ -50,7 +52,6 @@ pub mod SpeltAssigns
 pub mod SpeltCommands
 pub mod SpeltFields
 pub mod SpeltPatterns
-pub mod SpeltThings
 pub mod SpeltWords
 pub mod StepFields
 pub mod StepLines

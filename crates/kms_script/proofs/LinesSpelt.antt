@@ -1,7 +1,7 @@
 -- A line of a device that was read is written as it stood.
 use Rattle.std.proofs.Common.{◌≡◌, ℕ, ◌≤◌, Bool, true, false, List, [], ◌∷◌, ◌++◌, append_assoc, cond, Some, None, refl, sym, ap, ◌∙◌}
 use Rattle.std.proofs.Common.{arith}
-use Rattle.std.specs.Prelude.{codes, ◌==◌}
+use Rattle.std.specs.Prelude.{codes, ◌==◌, nat_le}
 use Rattle.std.specs.Fmt.{decimal}
 use Rattle.std.specs.Str.{bytes_eq}
 use Rattle.std.proofs.lemmas.Slice.Eq.{bytes_eq-Decides}
@@ -9,12 +9,13 @@ use Rattle.kms_model.specs.declared.objects.PlaneInfo.{PlaneInfo}
 use Rattle.kms_model.specs.Script.Grammar.{crtc_list, format_list}
 use Rattle.kms_model.specs.Report.TextLines.{line}
 use Rattle.kms_model.specs.Script.WholeInput.{crtcs_at, plane_type, plane_fields, conn_at}
-use Rattle.kms_model.specs.Script.Words.{until, from, field_at, dec, dec_at, end_at}
+use Rattle.kms_model.specs.Script.Words.{until, from, field_at, dec_at, end_at}
 use Rattle.kms_model.specs.Script.Spelling.{type_word, crtcs_word, formats_word}
-use Rattle.kms_script.proofs.Decimals.{dec_at_most}
-use Rattle.kms_script.proofs.Inverted.{bind_some, some_same}
+use Rattle.kms_script.proofs.Inverted.{bind_some, from_bind, some_same}
 use Rattle.kms_script.proofs.LineFields.{fields_to, line_fields, fields_end, then_fields, until_from, field_spelt, end_spelt}
-use Rattle.kms_script.proofs.SpeltFields.{dec_at_spelt}
+use Rattle.kms_script.proofs.FitWords.{le_test}
+use Rattle.kms_script.proofs.SpeltFields.{at_end, number_taken, numbers}
+use Rattle.std.proofs.lemmas.Bool.{leb-true}
 use Rattle.kms_script.proofs.ListsSpelt.{crtcs_spelt, formats_spelt}
 
 -- fields up to the end of a line, behind a line's first word
@@ -43,22 +44,13 @@ not_zero false n m e = some_same n m e
 
 -- the field of a number of CRTCs that was read
 pub count_spelt : (bytes : List ℕ) (n : ℕ) → crtcs_at bytes ≡ Some n → Counted n bytes
-unfolding crtcs_at dec_at
+unfolding crtcs_at
 count_spelt bytes n e =
-    let number = bind_some (dec_at 4 bytes) _ n e in
-    let done = bind_some (end_at number.value.1) _ n number.then in
-    let field = bind_some (field_at bytes) _ number.value number.given in
-    let read = bind_some (dec 4 field.value.0) _ number.value field.then in
-    let pair : (read.value, field.value.1) ≡ number.value = some_same _ number.value read.then in
-    let same : number.value.0 ≡ n = not_zero (number.value.0 == 0) number.value.0 n done.then in
-    let low : read.value ≤ 4 = dec_at_most 4 read.value field.value.0 read.given in
-    let spells : fields_to (decimal number.value.0 ∷ []) [] ≡ bytes =
-    then_fields (decimal number.value.0) [] [] number.value.1 bytes (dec_at_spelt 4 bytes number.value (omega arith) number.given)
-    (end_spelt number.value.1 done.value done.given) in
-    record {
-      few = omega (arith, low, ap (λ (p : ℕ × List ℕ). p.0) pair, same);
-      spells = ap (λ k. fields_to (decimal k ∷ []) []) (sym same) ∙ spells;
-    }
+    from_bind (dec_at 4 bytes) _ n e (λ number given more.
+    from_bind (end_at number.1) _ n more (λ u end more.
+    let few = numbers 4 (λ k. nat_le k 4) (omega arith) (λ k le. le_test k 4 le) in
+    let t = at_end u (number_taken 4 (λ k. nat_le k 4) few bytes number given) end in
+    rw (← not_zero (number.0 == 0) number.0 n more) (record { few = leb-true number.0 4 t.fit; spells = t.spelt })))
 
 -- the one of three words that was found
 type_cases : (overlay primary cursor : Bool) (w : List ℕ) (kind : ℕ) → (overlay ≡ true → w ≡ codes "overlay")

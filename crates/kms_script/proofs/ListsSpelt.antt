@@ -7,7 +7,6 @@ use Rattle.std.proofs.lemmas.List.Splits.{join_with_byte-slice_split}
 use Rattle.kms_model.specs.declared.objects.Format.{Format}
 use Rattle.kms_model.specs.declared.objects.Format.TheVariants.{Xr24, Ar24, Rg16}
 use Rattle.kms_model.specs.Script.Grammar.{crtc_list, format_list, format_bit, format_named, parted}
-use Rattle.kms_model.specs.Device.Masks.{has_bit}
 use Rattle.kms_model.specs.Script.Words.{dec}
 use Rattle.kms_model.specs.Script.Spelling.{list_word, crtcs_word, formats_word, format_word, format_at_bit}
 use Rattle.kms_script.proofs.Decimals.{dec_spelt, dec_at_most}
@@ -19,54 +18,48 @@ use Rattle.kms_script.proofs.ListedBits.{mask_of, set_bits, AreBits, Spelt, turn
 abbrev four : Bool → Bool → Bool → Bool → List Bool
 four a b c d = a ∷ b ∷ c ∷ d ∷ []
 
--- which of four bits a mask has
-record HasBits (mask : ℕ) (a b c d : Bool) : Type 0 where
-  first : has_bit mask 0 ≡ a
-  second : has_bit mask 1 ≡ b
-  third : has_bit mask 2 ≡ c
-  fourth : has_bit mask 3 ≡ d
-
--- a mask of four bits has those that are set
-has_bits : (a b c d : Bool) → HasBits (mask_of 1 (four a b c d)) a b c d
-has_bits true true true true = record { first = refl; second = refl; third = refl; fourth = refl }
-has_bits true true true false = record { first = refl; second = refl; third = refl; fourth = refl }
-has_bits true true false true = record { first = refl; second = refl; third = refl; fourth = refl }
-has_bits true true false false = record { first = refl; second = refl; third = refl; fourth = refl }
-has_bits true false true true = record { first = refl; second = refl; third = refl; fourth = refl }
-has_bits true false true false = record { first = refl; second = refl; third = refl; fourth = refl }
-has_bits true false false true = record { first = refl; second = refl; third = refl; fourth = refl }
-has_bits true false false false = record { first = refl; second = refl; third = refl; fourth = refl }
-has_bits false true true true = record { first = refl; second = refl; third = refl; fourth = refl }
-has_bits false true true false = record { first = refl; second = refl; third = refl; fourth = refl }
-has_bits false true false true = record { first = refl; second = refl; third = refl; fourth = refl }
-has_bits false true false false = record { first = refl; second = refl; third = refl; fourth = refl }
-has_bits false false true true = record { first = refl; second = refl; third = refl; fourth = refl }
-has_bits false false true false = record { first = refl; second = refl; third = refl; fourth = refl }
-has_bits false false false true = record { first = refl; second = refl; third = refl; fourth = refl }
-has_bits false false false false = record { first = refl; second = refl; third = refl; fourth = refl }
-
 -- the list of a mask is that of the bits which make it up
-four_listed : (word_of : ℕ → List ℕ) (a b c d : Bool) (mask : ℕ) → mask_of 1 (four a b c d) ≡ mask
-    → list_word word_of 4 mask ≡ join_with_byte 44 (map word_of (set_bits 0 (four a b c d)))
-four_listed word_of a b c d mask e = let h : HasBits mask a b c d = rw (← e) (has_bits a b c d)
-    in rw (h.first, h.second, h.third, h.fourth) refl
+four_set : (word_of : ℕ → List ℕ) (a b c d : Bool)
+    → list_word word_of 4 (mask_of 1 (four a b c d)) ≡ join_with_byte 44 (map word_of (set_bits 0 (four a b c d)))
+four_set word_of true true true true = refl
+four_set word_of true true true false = refl
+four_set word_of true true false true = refl
+four_set word_of true true false false = refl
+four_set word_of true false true true = refl
+four_set word_of true false true false = refl
+four_set word_of true false false true = refl
+four_set word_of true false false false = refl
+four_set word_of false true true true = refl
+four_set word_of false true true false = refl
+four_set word_of false true false true = refl
+four_set word_of false true false false = refl
+four_set word_of false false true true = refl
+four_set word_of false false true false = refl
+four_set word_of false false false true = refl
+four_set word_of false false false false = refl
 
 -- the same of three bits
-three_listed : (word_of : ℕ → List ℕ) (a b c : Bool) (mask : ℕ) → mask_of 1 (a ∷ b ∷ c ∷ []) ≡ mask
-    → list_word word_of 3 mask ≡ join_with_byte 44 (map word_of (set_bits 0 (a ∷ b ∷ c ∷ [])))
-three_listed word_of a b c mask e = let h : HasBits mask a b c false = rw (← e) (has_bits a b c false)
-    in rw (h.first, h.second, h.third) refl
+three_set : (word_of : ℕ → List ℕ) (a b c : Bool)
+    → list_word word_of 3 (mask_of 1 (a ∷ b ∷ c ∷ [])) ≡ join_with_byte 44 (map word_of (set_bits 0 (a ∷ b ∷ c ∷ [])))
+three_set word_of true true true = refl
+three_set word_of true true false = refl
+three_set word_of true false true = refl
+three_set word_of true false false = refl
+three_set word_of false true true = refl
+three_set word_of false true false = refl
+three_set word_of false false true = refl
+three_set word_of false false false = refl
 
 -- the same of any four bits
 four_bits : (word_of : ℕ → List ℕ) (bits : List Bool) (mask : ℕ) → length bits ≡ 4 → mask_of 1 bits ≡ mask
     → list_word word_of 4 mask ≡ join_with_byte 44 (map word_of (set_bits 0 bits))
-four_bits word_of (a ∷ b ∷ c ∷ d ∷ []) mask many e = four_listed word_of a b c d mask e
+four_bits word_of (a ∷ b ∷ c ∷ d ∷ []) mask many e = rw (← e) (four_set word_of a b c d)
 four_bits word_of bits mask many e = absurd (omega arith)
 
 -- the same of any three bits
 three_bits : (word_of : ℕ → List ℕ) (bits : List Bool) (mask : ℕ) → length bits ≡ 3 → mask_of 1 bits ≡ mask
     → list_word word_of 3 mask ≡ join_with_byte 44 (map word_of (set_bits 0 bits))
-three_bits word_of (a ∷ b ∷ c ∷ []) mask many e = three_listed word_of a b c mask e
+three_bits word_of (a ∷ b ∷ c ∷ []) mask many e = rw (← e) (three_set word_of a b c)
 three_bits word_of bits mask many e = absurd (omega arith)
 
 -- an index of at most four CRTCs

@@ -6,6 +6,7 @@ use Rattle.std.specs.Bool.{Decides, nat_eq}
 use Rattle.std.specs.List.{AllByRecursion, IsDistinct, list_any}
 use Rattle.std.specs.Option.{option_map_or}
 use Rattle.std.specs.Str.{bytes_eq}
+use Rattle.std.proofs.lemmas.Bool.{false≢true}
 use Rattle.std.proofs.lemmas.Bool.Decides.{nat_tests}
 use Rattle.std.proofs.lemmas.Slice.Eq.{bytes_eq-Decides}
 use Rattle.kms_model.specs.declared.scripts.Assign.{Assign}
@@ -114,30 +115,6 @@ no_field_there fields rest old now so long e = so.read ∙ rw (no_word rest long
 
 -- Labels that names make
 
-none_made : (x : List ℕ) (ns : List Name) → AllByRecursion (λ v. bytes_eq x v ≡ false) (map (λ n. n.word) ns)
-    → list_any (bytes_eq x) (made_words ns) ≡ false
-none_made x [] all = refl
-none_made x (n ∷ ns) all = step n.is_made n.word all.0 (none_made x ns all.1)
-  where
-    step : (m : Bool) (w : List ℕ) → bytes_eq x w ≡ false → list_any (bytes_eq x) (made_words ns) ≡ false
-        → list_any (bytes_eq x) (made_words (record { word = w; is_made = m } ∷ ns)) ≡ false
-    step true w apart ih = rw (apart, ih) refl
-    step false w apart ih = ih
-
-holds_step : (s m : Bool) (w x : List ℕ) (ns : List Name) → bytes_eq w x ≡ s
-    → AllByRecursion (λ v. bytes_eq x v ≡ false) (map (λ n. n.word) ns) → was_made w ns ≡ list_any (bytes_eq w) (made_words ns)
-    → cond s m (was_made w ns) ≡ list_any (bytes_eq w) (made_words (record { word = x; is_made = m } ∷ ns))
-holds_step true true w x ns e all ih = rw e refl
-holds_step false true w x ns e all ih = rw e ih
-holds_step true false w x ns e all ih = let same : w ≡ x = (bytes_eq-Decides w x).0 e in rw same (sym (none_made x ns all))
-holds_step false false w x ns e all ih = ih
-
-holds_made : (ns : List Name) → IsDistinct bytes_eq (map (λ n. n.word) ns) → (w : List ℕ)
-    → was_made w ns ≡ list_any (bytes_eq w) (made_words ns)
-unfolding IsDistinct
-holds_made [] d w = refl
-holds_made (n ∷ ns) d w = holds_step (bytes_eq w n.word) n.is_made w n.word ns refl d.0 (holds_made ns d.1 w)
-
 made_all : (x : List ℕ) (ns : List Name) → AllByRecursion (λ v. bytes_eq x v ≡ false) (map (λ n. n.word) ns)
     → AllByRecursion (λ v. bytes_eq x v ≡ false) (made_words ns)
 made_all x [] all = tt
@@ -147,6 +124,26 @@ made_all x (n ∷ ns) all = step n.is_made n.word all.0 (made_all x ns all.1)
         → AllByRecursion (λ v. bytes_eq x v ≡ false) (made_words (record { word = w; is_made = m } ∷ ns))
     step true w apart ih = (apart, ih)
     step false w apart ih = ih
+
+none_any : (x : List ℕ) (vs : List (List ℕ)) → AllByRecursion (λ v. bytes_eq x v ≡ false) vs → list_any (bytes_eq x) vs ≡ false
+none_any x [] all = refl
+none_any x (v ∷ vs) all = rw (all.0, none_any x vs all.1) refl
+
+holds_step : (s m : Bool) (w x : List ℕ) (ns : List Name) → bytes_eq w x ≡ s
+    → AllByRecursion (λ v. bytes_eq x v ≡ false) (map (λ n. n.word) ns) → was_made w ns ≡ list_any (bytes_eq w) (made_words ns)
+    → cond s m (was_made w ns) ≡ list_any (bytes_eq w) (made_words (record { word = x; is_made = m } ∷ ns))
+holds_step true true w x ns e all ih = rw e refl
+holds_step false true w x ns e all ih = rw e ih
+holds_step true false w x ns e all ih =
+    let same : w ≡ x = (bytes_eq-Decides w x).0 e in
+    rw same (sym (none_any x (made_words ns) (made_all x ns all)))
+holds_step false false w x ns e all ih = ih
+
+holds_made : (ns : List Name) → IsDistinct bytes_eq (map (λ n. n.word) ns) → (w : List ℕ)
+    → was_made w ns ≡ list_any (bytes_eq w) (made_words ns)
+unfolding IsDistinct
+holds_made [] d w = refl
+holds_made (n ∷ ns) d w = holds_step (bytes_eq w n.word) n.is_made w n.word ns refl d.0 (holds_made ns d.1 w)
 
 made_distinct : (ns : List Name) → IsDistinct bytes_eq (map (λ n. n.word) ns) → IsDistinct bytes_eq (made_words ns)
 unfolding IsDistinct
@@ -291,10 +288,7 @@ decided : (r t : Bool) (numbers : List ℕ) → Decides r (IsDistinct nat_eq num
 decided true true numbers d o = absurd (o (d.0 refl))
 decided true false numbers d o = refl
 decided false true numbers d o = refl
-decided false false numbers d o = absurd (clash (d.1 o))
-  where
-    clash : false ≡ true → ⊥
-    clash e = cc
+decided false false numbers d o = absurd (false≢true (d.1 o))
 
 pub many_decided : (names : Names) (bytes numbers : List ℕ) (flags user : ℕ × List ℕ) (o : Option (List (List ℕ))) (r : Bool)
     → names.is_twice ≡ false → IsDistinct bytes_eq (words_in names) → has_many bytes ≡ true

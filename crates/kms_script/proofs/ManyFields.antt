@@ -18,22 +18,13 @@ pub blanks_step : (b : ℕ) (bs : List ℕ) → blank_count (b ∷ bs) ≡ one_i
 blanks_step b bs = step (b == 32) bs refl
   where
     step : (t : Bool) (bs : List ℕ) → (b == 32) ≡ t → blank_count (b ∷ bs) ≡ one_if t + blank_count bs
-    step true bs e = rw e (one_more (blank_count bs))
-      where
-        one_more : (n : ℕ) → suc n ≡ 1 + n
-        one_more n = omega arith
-    step false bs e = rw e (none_more (blank_count bs))
-      where
-        none_more : (n : ℕ) → n ≡ 0 + n
-        none_more n = omega arith
+    step true bs e = rw e (omega arith)
+    step false bs e = rw e (omega arith)
 
 rest_step : (t : Bool) (b : ℕ) (bs : List ℕ) → (b == 32) ≡ t → blank_count bs ≡ blank_count (from 32 bs)
     → blank_count (b ∷ bs) ≡ blank_count (cond t (b ∷ bs) (from 32 bs))
 rest_step true b bs e ih = refl
-rest_step false b bs e ih = blanks_step b bs ∙ rw e (ih_more (blank_count bs) (blank_count (from 32 bs)) ih)
-  where
-    ih_more : (n m : ℕ) → n ≡ m → 0 + n ≡ m
-    ih_more n m same = omega (arith, same)
+rest_step false b bs e ih = blanks_step b bs ∙ rw e (omega (arith, ih))
 
 -- a word has no blanks
 blanks_from : (bs : List ℕ) → blank_count bs ≡ blank_count (from 32 bs)
@@ -54,10 +45,7 @@ onto_length b w ws = refl
 
 parted_step : (t : Bool) (b : ℕ) (bs : List ℕ) → (b == 32) ≡ t → length (parted 32 bs) ≡ 1 + blank_count bs
     → length (cond t ([] ∷ parted 32 bs) (onto_first b (parted 32 bs))) ≡ 1 + blank_count (b ∷ bs)
-parted_step true b bs e ih = rw (blanks_step b bs, e) (more (length (parted 32 bs)) (blank_count bs) ih)
-  where
-    more : (n m : ℕ) → n ≡ 1 + m → suc n ≡ 1 + (1 + m)
-    more n m same = omega (arith, same)
+parted_step true b bs e ih = rw (blanks_step b bs, e) (omega (arith, ih))
 parted_step false b bs e ih =
     let first : length (until 32 bs ∷ later_parts 32 (from 32 bs)) ≡ 1 + blank_count bs = rw first_part at ih in
     rw (blanks_step b bs, e, first_part 32 bs) (onto_length b (until 32 bs) (later_parts 32 (from 32 bs)) ∙

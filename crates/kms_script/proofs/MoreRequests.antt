@@ -1,14 +1,13 @@
 -- A script with requests more behind the commands of its last client, whose labels are all among its names, is a script.
-use Rattle.std.proofs.Common.{◌≡◌, ℕ, zero, suc, ◌+◌, ◌≤◌, ◌<◌, inl, inr, Bool, true, false, cond, List, [], ◌∷◌, ◌++◌, codes, length}
-use Rattle.std.proofs.Common.{length-append, map, append-nil, append_assoc, Some, refl, sym, ap, subst, ◌∙◌, arith, one-add, if◌then◌else◌}
-use Rattle.std.specs.Prelude.{◌==◌, ◌||◌, ◌^◌, max, nat_le, nat_lt, option_map}
+use Rattle.std.proofs.Common.{[], ◌≡◌, ℕ, zero, suc, ◌+◌, ◌≤◌, ◌<◌, inl, inr, Bool, true, false, List, ◌∷◌, ◌++◌, codes, length}
+use Rattle.std.proofs.Common.{length-append, map, append-nil, append_assoc, Some, refl, sym, ap, subst, ◌∙◌, arith}
+use Rattle.std.specs.Prelude.{◌==◌, ◌||◌, max, nat_le, nat_lt, option_map}
 use Rattle.std.specs.List.{AllByRecursion, IsDistinct, flat_map, list_all, position_or_len}
 use Rattle.std.specs.Str.{bytes_eq}
 use Rattle.std.proofs.lemmas.Bool.{and_from, and_parts, cases_Bool, cases_lt, false≢true}
 use Rattle.std.proofs.lemmas.Bool.Decides.{nat_tests}
 use Rattle.std.proofs.lemmas.List.{length-map}
 use Rattle.std.proofs.lemmas.List.Folds.{list_all-append}
-use Rattle.std.proofs.lemmas.List.Recursion.{is_position_or_len}
 use Rattle.std.proofs.lemmas.Slice.Eq.{bytes_eq-Decides}
 use Rattle.kms_model.specs.declared.scripts.Assign.{Assign}
 use Rattle.kms_model.specs.declared.scripts.Command.{Command}
@@ -27,12 +26,13 @@ use Rattle.kms_model.specs.Script.InputLines.{Row, rows_of}
 use Rattle.kms_model.specs.Script.Longer.{at_last, commands_of_last, with_commands}
 use Rattle.kms_model.specs.Script.Spelling.{Spells, name_word, spelt_line, spelt_lines}
 use Rattle.kms_model.specs.Script.WellFormed.{IsFitClient, IsFitCommand, IsWellFormed, is_assign_in, is_command_in, is_property_in}
-use Rattle.kms_model.specs.Script.WellFormed.{is_value_in, is_word32}
+use Rattle.kms_model.specs.Script.WellFormed.{is_value_in}
 use Rattle.kms_model.specs.Script.WholeInput.{Draft, blank_draft, clients_in, clients_of, client_line, command_line, is_nil, later_line}
 use Rattle.kms_model.specs.Script.WholeInput.{script_in, script_line, topology_in}
 use Rattle.kms_words.specs.Printed.{fields}
 use Rattle.kms_words.proofs.Spaced.{line-fields}
 use Rattle.kms_script.specs.ReadAnew.{IsLineOf, IsSaid, renamed, renamed_assign, renamed_prop, renamed_value}
+use Rattle.kms_script.proofs.AssignParts.{assign_is, is_asked}
 use Rattle.kms_script.proofs.DraftGrows.{with_client}
 use Rattle.kms_script.proofs.Inverted.{bind_some, map_some}
 use Rattle.kms_script.proofs.LastDraft.{AreFine, IsLast, last_is}
@@ -44,14 +44,6 @@ use Rattle.kms_script.proofs.SpelledRows.{ended_text}
 use Rattle.kms_script.proofs.WordsBack.{no_label, word_low}
 
 -- Numbers of names among the same names
-
--- the place of a word among words, or past the last
-abbrev place_at : List ℕ → List (List ℕ) → ℕ
-place_at w [] = 0
-place_at w (x ∷ xs) = if bytes_eq w x then 0 else suc (place_at w xs)
-
-place_at-is : (w : List ℕ) (xs : List (List ℕ)) → place_at w xs ≡ position_or_len (bytes_eq w) xs
-place_at-is w xs = is_position_or_len (place_at w) (bytes_eq w) refl (λ n ns. rw one-add refl) xs
 
 not_back : (a b : List ℕ) → bytes_eq a b ≡ false → bytes_eq b a ≡ false
 not_back a b apart = elim (cases_Bool (bytes_eq b a)) [
@@ -66,22 +58,15 @@ apart_at x [] n all low = absurd (omega (arith, low))
 apart_at x (y ∷ ys) zero all low = all.0
 apart_at x (y ∷ ys) (suc n) all low = apart_at x ys n all.1 (omega (arith, low))
 
-own_step : (t : Bool) (n m : ℕ) → t ≡ false → n ≡ m → cond t 0 (suc n) ≡ suc m
-own_step true n m off same = absurd cc
-own_step false n m off same = ap (λ k. suc k) same
-
-own_at : (xs : List (List ℕ)) (n : ℕ) → IsDistinct bytes_eq xs → n < length xs → place_at (name_word xs n) xs ≡ n
-unfolding IsDistinct
-own_at [] n distinct low = absurd (omega (arith, low))
-own_at (x ∷ xs) zero distinct low = let same : bytes_eq x x ≡ true = (bytes_eq-Decides x x).1 refl in rw same refl
-own_at (x ∷ xs) (suc n) distinct low =
-    own_step (bytes_eq (name_word xs n) x) (place_at (name_word xs n) xs) n
-    (not_back x (name_word xs n) (apart_at x xs n distinct.0 (omega (arith, low))))
-    (own_at xs n distinct.1 (omega (arith, low)))
-
 -- so a request whose labels are among the names is the same behind them
 own_place : (all : List (List ℕ)) (n : ℕ) → IsDistinct bytes_eq all → n < length all → renumbered all all n ≡ n
-own_place all n distinct low = sym (place_at-is (name_word all n) all) ∙ own_at all n distinct low
+unfolding IsDistinct
+own_place [] n distinct low = absurd (omega (arith, low))
+own_place (x ∷ xs) zero distinct low = let same : bytes_eq x x ≡ true = (bytes_eq-Decides x x).1 refl in rw same refl
+own_place (x ∷ xs) (suc n) distinct low =
+    let apart = not_back x (name_word xs n) (apart_at x xs n distinct.0 (omega (arith, low))) in
+    let rest : position_or_len (bytes_eq (name_word xs n)) xs ≡ n = own_place xs n distinct.1 (omega (arith, low)) in
+    rw (apart, rest) (omega arith)
 
 module _ (profile : ℕ) (all : List (List ℕ)) (distinct : IsDistinct bytes_eq all) where
   same_prop : (p : PropRef) → is_property_in profile all p ≡ true → renamed_prop (renumbered all all) p ≡ p
@@ -100,15 +85,15 @@ module _ (profile : ℕ) (all : List (List ℕ)) (distinct : IsDistinct bytes_eq
   same_assigns [] are = refl
   same_assigns (a ∷ more) are =
       let both = and_parts (is_assign_in profile all a) (list_all (is_assign_in profile all) more) are in
-      let inner = and_parts (is_property_in profile all a.prop) (is_value_in all a.value) (and_parts (nat_le a.index 255) _ both.0).1 in
-      let prop = same_prop a.prop inner.0 in
-      let value = same_value a.value inner.1 in
+      let of = assign_is profile all a both.0 in
+      let prop = same_prop a.prop of.prop in
+      let value = same_value a.value of.value in
       let rest = same_assigns more both.1 in
       λ i. record a { prop = prop i; value = value i } ∷ rest i
 
   same_request : (r : Request) → is_command_in profile all (command.Atomic r) ≡ true → renamed (renumbered all all) r ≡ r
   same_request r is =
-      let assigns = same_assigns r.assigns (and_parts (nat_lt r.user_data (2 ^ 64)) _ (and_parts (is_word32 r.flags) _ is).1).1 in
+      let assigns = same_assigns r.assigns (is_asked profile all r is).assigns in
       λ i. record r { assigns = assigns i }
 
 -- Lines

@@ -12,11 +12,11 @@ pub record Begins (names : Names) (all : List (List ℕ)) : Type 0 where
   pub whole : all ≡ words_in names ++ more
 
 -- the words of names
-abbrev words : List Name → List (List ℕ)
+abbrev pub words : List Name → List (List ℕ)
 words ns = map (λ n. n.word) ns
 
 -- whether a name has a word
-abbrev is : List ℕ → Name → Bool
+abbrev pub is : List ℕ → Name → Bool
 is w n = bytes_eq w n.word
 
 -- a list is another with more behind it

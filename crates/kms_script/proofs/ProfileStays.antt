@@ -1,29 +1,23 @@
 -- A command's line leaves the profile of the names as it was.
-use Rattle.std.proofs.Common.{◌≡◌, ℕ, suc, inl, inr, Bool, true, false, List, [], ◌∷◌, ◌++◌, length, length-append, All, ◌<◌, ◌≤◌, arith}
-use Rattle.std.proofs.Common.{Option, Some, None, Ok, cond, refl, sym, ap, subst, ◌∙◌}
-use Rattle.std.specs.Prelude.{◌||◌, codes, nat_le, option_map}
+use Rattle.std.proofs.Common.{[], ◌≡◌, ℕ, suc, Bool, true, false, List, ◌∷◌, ◌++◌, length, length-append, All, ◌<◌, ◌≤◌, arith, Option}
+use Rattle.std.proofs.Common.{Some, None, Ok, refl, sym, ap, subst, ◌∙◌}
+use Rattle.std.specs.Prelude.{◌||◌, nat_le}
 use Rattle.std.proofs.lemmas.Bool.{leb-false, or_parts}
 use Rattle.std.proofs.lemmas.List.Elements.{All-append, All-cons, All-nil}
-use Rattle.std.specs.Str.{bytes_eq}
 use Rattle.kms_model.specs.declared.scripts.Assign.{Assign}
 use Rattle.kms_model.specs.declared.scripts.Command.{Command}
-use Rattle.kms_model.specs.declared.scripts.Command.TheVariants as command
 use Rattle.kms_model.specs.declared.scripts.Value.{Value}
 use Rattle.kms_model.specs.declared.scripts.Why.TheVariants.{Label, Limit}
-use Rattle.kms_model.specs.Script.CommandLines.{Names, addfb_read, assign_read, assign_words, assigns_read, atomic_read, blob_read}
-use Rattle.kms_model.specs.Script.CommandLines.{buffer_read, command_read, is_over, label_alone, label_read, making, making_read, mode_read}
-use Rattle.kms_model.specs.Script.CommandLines.{naming_read, property_read, saying, thing_read, value_read}
-use Rattle.kms_model.specs.Script.Grammar.{int, known_property}
+use Rattle.kms_model.specs.Script.CommandLines.{Names, assign_read, assign_words, assigns_read, command_read, is_over, making}
+use Rattle.kms_model.specs.Script.CommandLines.{property_read, saying, value_read}
+use Rattle.kms_model.specs.Script.Grammar.{known_property}
 use Rattle.kms_model.specs.Script.WellFormed.{IsFitCommand}
 use Rattle.kms_model.specs.Script.WholeInput.{clients_of}
-use Rattle.kms_model.specs.Script.Words.{dec, end_at, from, is_label, label_at, strip, until}
 use Rattle.kms_words.specs.Fitting.{IsFitProfile}
 use Rattle.kms_script.specs.Lines.{line_of}
 use Rattle.kms_script.proofs.Accepted.{form_ok, ok_same, unless_ok}
-use Rattle.kms_script.proofs.Inverted.{bind_some, choice_some, from_bind, if_some, map_some, or_some, some_same}
-use Rattle.kms_script.proofs.ReadParts.{blob_line_parts, buffer_parts, mode_line_parts, request_parts}
-use Rattle.kms_script.proofs.SpeltAssigns.{prop_of}
-use Rattle.kms_script.proofs.SpeltWords.{nothing_read}
+use Rattle.kms_script.proofs.EachCommand.{command_each, value_each, prop_of}
+use Rattle.kms_script.proofs.Inverted.{bind_some, some_same}
 
 -- names that are read after others have their profile
 abbrev Stays : {A : Type 0} → Names → A × Names → Type 0
@@ -46,17 +40,12 @@ unfolding property_read
 property_stays names word = property_step names word (known_property names.profile word)
 
 value_stays : (names : Names) (word : List ℕ) (r : Value × Names) → value_read names word ≡ Some r → Stays names r
-unfolding value_read
-value_stays names word r e = elim (or_some _ (strip (codes "@") word) _ r e) [
-  | inl at ↦ (let l = if_some (is_label at.value) _ r at.then in rw (← some_same _ r l.1) (saying_stays at.value names))
-  | inr more ↦ elim (or_some _ (strip (codes "+") word) _ r more) [
-    | inl plus ↦ (let l = if_some (is_label plus.value) _ r plus.then in rw (← some_same _ r l.1) (making_stays plus.value names))
-    | inr last ↦ elim (or_some _ (strip (codes "crtc") word) _ r last) [
-      | inl crtc ↦ (let m = map_some _ (dec 255 crtc.value) r crtc.then in rw (← m.makes) refl)
-      | inr number ↦ (let m = map_some _ (int word) r number in rw (← m.makes) refl)
-    ]
-  ]
-]
+value_stays names word = value_each names word (Stays names) (record {
+  named = λ label at is. saying_stays label names;
+  new = λ label plus is. making_stays label names;
+  crtc = λ digits index front is. refl;
+  number = λ z is. refl;
+})
 
 pub assign_stays : (names : Names) (word : List ℕ) (r : Assign × Names) → assign_read names word ≡ Some r → r.1.profile ≡ names.profile
 unfolding assign_read
@@ -74,73 +63,17 @@ assigns_stay (w ∷ ws) names r e =
 
 -- Commands
 
-atomic_stays : (names : Names) (bytes : List ℕ) (r : Command × Names) → atomic_read names bytes ≡ Some r → Stays names r
-atomic_stays names bytes r e = let p = request_parts names bytes r e in rw (← p.makes) (assigns_stay p.words names p.sets p.given)
-
-buffer_stays : (names : Names) (bytes : List ℕ) (r : Command × Names) → buffer_read names bytes ≡ Some r → Stays names r
-buffer_stays names bytes r e = let p = buffer_parts names bytes r e in rw (← p.makes) (making_stays p.label.0 names)
-
-addfb_stays : (names : Names) (bytes : List ℕ) (r : Command × Names) → addfb_read names bytes ≡ Some r → Stays names r
-unfolding addfb_read
-addfb_stays names bytes r e =
-    from_bind (label_at bytes) _ r e (λ label first more.
-    from_bind (label_alone label.1) _ r more (λ buffer last more.
-    rw (← some_same _ r more) (saying_stays buffer (making label.0 names) ∙ making_stays label.0 names)))
-
-mode_stays : (names : Names) (bytes : List ℕ) (r : Command × Names) → mode_read names bytes ≡ Some r → Stays names r
-mode_stays names bytes r e = let p = mode_line_parts names bytes r e in rw (← p.makes) (making_stays p.label.0 names)
-
-blob_stays : (names : Names) (bytes : List ℕ) (r : Command × Names) → blob_read names bytes ≡ Some r → Stays names r
-blob_stays names bytes r e = let p = blob_line_parts names bytes r e in rw (← p.makes) (making_stays p.label.0 names)
-
-naming_stays : (f : ℕ → Command) (names : Names) (bytes : List ℕ) (r : Command × Names) → naming_read f names bytes ≡ Some r → Stays names r
-unfolding naming_read
-naming_stays f names bytes r e =
-    from_bind (label_alone bytes) _ r e (λ label alone more.
-    rw (← some_same _ r more) (saying_stays label names))
-
-making_one_stays : (f : ℕ → Command) (names : Names) (bytes : List ℕ) (r : Command × Names) → making_read f names bytes ≡ Some r
-    → Stays names r
-unfolding making_read
-making_one_stays f names bytes r e =
-    from_bind (label_alone bytes) _ r e (λ label alone more.
-    rw (← some_same _ r more) (making_stays label names))
-
-wait_stays : (names : Names) (bytes : List ℕ) (r : Command × Names) → option_map (λ u. (command.Wait, names)) (end_at bytes) ≡ Some r
-    → Stays names r
-wait_stays names bytes r e = let m = map_some _ (end_at bytes) r e in rw (← m.makes) refl
-
--- by a first word that is one of several
-by_word : (names : Names) (t : Bool) (r : Command × Names) (one other : Option (Command × Names)) → (one ≡ Some r → Stays names r)
-    → (other ≡ Some r → Stays names r) → cond t one other ≡ Some r → Stays names r
-by_word names t r one other here there e = elim (choice_some t one other r e) [
-  | inl is ↦ here is.1
-  | inr more ↦ there more
-]
-
-thing_stays : (names : Names) (keyword bytes : List ℕ) (r : Command × Names) → thing_read names keyword bytes ≡ Some r → Stays names r
-unfolding thing_read
-thing_stays names keyword bytes r e =
-    by_word names (bytes_eq keyword (codes "buffer")) r _ _ (buffer_stays names bytes r)
-    (by_word names (bytes_eq keyword (codes "addfb")) r _ _ (addfb_stays names bytes r)
-    (by_word names (bytes_eq keyword (codes "mode")) r _ _ (mode_stays names bytes r)
-    (by_word names (bytes_eq keyword (codes "blob")) r _ None (blob_stays names bytes r) (nothing_read r)))) e
-
-label_stays : (names : Names) (keyword bytes : List ℕ) (r : Command × Names) → label_read names keyword bytes ≡ Some r → Stays names r
-unfolding label_read
-label_stays names keyword bytes r e =
-    by_word names (bytes_eq keyword (codes "destroy")) r _ _ (naming_stays command.Destroy names bytes r)
-    (by_word names (bytes_eq keyword (codes "closefb")) r _ _ (naming_stays command.CloseFb names bytes r)
-    (by_word names (bytes_eq keyword (codes "fence")) r _ _ (making_one_stays command.Fence names bytes r)
-    (by_word names (bytes_eq keyword (codes "signal")) r _ _ (naming_stays command.Signal names bytes r)
-    (thing_stays names keyword bytes r)))) e
-
 pub command_stays : (names : Names) (text : List ℕ) (r : Command × Names) → command_read names text ≡ Some r → r.1.profile ≡ names.profile
-unfolding command_read
-command_stays names text r e =
-    by_word names (bytes_eq (until 32 text) (codes "atomic")) r _ _ (atomic_stays names (from 32 text) r)
-    (by_word names (bytes_eq (until 32 text) (codes "wait")) r _ _ (wait_stays names (from 32 text) r)
-    (label_stays names (until 32 text) (from 32 text) r)) e
+command_stays names = command_each names (λ k bytes r. Stays names r) (record {
+  atomic = λ bytes p. assigns_stay p.words names p.sets p.given;
+  wait = λ bytes end. refl;
+  naming = λ k f of bytes label alone. saying_stays label names;
+  making_one = λ k f of bytes label alone. making_stays label names;
+  buffer = λ bytes p. making_stays p.label.0 names;
+  addfb = λ bytes p. saying_stays p.buffer (making p.label.0 names) ∙ making_stays p.label.0 names;
+  mode = λ bytes p. making_stays p.label.0 names;
+  blob = λ bytes p. making_stays p.label.0 names;
+})
 
 -- a line that gives a command leaves the profile as it was, and it stays one that there is
 pub fit_profile : (names : Names) (text : List ℕ) (c : Command) (after : Names) → line_of names text ≡ Ok (c, after)

@@ -9,7 +9,7 @@ use Rattle.std.specs.List.{AllByRecursion, IsDistinct, list_all, list_any}
 use Rattle.std.specs.List.Sorted.{IsPermutation, IsSorted}
 use Rattle.std.specs.Ordering.{is_lt, nat_cmp}
 use Rattle.std.specs.Str.{bytes_eq}
-use Rattle.std.proofs.lemmas.Bool.{and_parts}
+use Rattle.std.proofs.lemmas.Bool.{true≢false, and_parts}
 use Rattle.std.proofs.lemmas.Bool.Decides.{nat_tests}
 use Rattle.std.proofs.lemmas.List.Sorted.{IsPermutation-sym}
 use Rattle.std.proofs.lemmas.Map.Keys.{IsDistinct-IsPermutation}
@@ -134,10 +134,7 @@ packed_apart v w lv lw apart = step (nat_eq (packed v) (packed w)) refl
     step true e =
         let same : packed v ≡ packed w = grind (arith, nat_tests) in
         let equal : bytes_eq v w ≡ true = (bytes_eq-Decides v w).1 (packed_same v w (label_digits v lv) (label_digits w lw) same) in
-        absurd (clash (sym equal ∙ apart))
-      where
-        clash : true ≡ false → ⊥
-        clash e = cc
+        absurd (true≢false (sym equal ∙ apart))
 
 -- the number of one more word
 abbrev numbers_with : Bool → List ℕ → List ℕ → List ℕ

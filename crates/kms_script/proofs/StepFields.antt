@@ -7,59 +7,36 @@ use Rattle.kms_model.specs.Script.Schedules.{greatest_number, lone_step, numbere
 use Rattle.kms_model.specs.Script.Words.{◌>>=◌, dec_at, end_at}
 use Rattle.kms_script.specs.Scheduled.{last_number, number_and_object}
 
--- a number up to the end of a line, from what was read so far
-abbrev number_alone : Option (ℕ × List ℕ) → Option ℕ
-number_alone o = o >>= (λ n. end_at n.1 >>= (λ u. Some n.0))
+-- behind a step that both take
+bind_map : {A B C : Type 0} (o : Option A) (p : A → Option C) (q : A → Option B) (f : B → C) → ((x : A) → p x ≡ option_map f (q x))
+    → (o >>= p) ≡ option_map f (o >>= q)
+bind_map None p q f same = refl
+bind_map (Some x) p q f same = same x
 
-abbrev made_of_number : (ℕ → Step) → Option (ℕ × List ℕ) → Option Step
-made_of_number step o = o >>= (λ n. end_at n.1 >>= (λ u. Some (step n.0)))
-
-at_end : (step : ℕ → Step) (n : ℕ) (u : Option (Unit {0})) → (u >>= (λ _. Some (step n))) ≡ option_map step (u >>= (λ _. Some n))
-at_end step n None = refl
-at_end step n (Some u) = refl
-
-of_number : (step : ℕ → Step) (o : Option (ℕ × List ℕ)) → made_of_number step o ≡ option_map step (number_alone o)
-of_number step None = refl
-of_number step (Some n) = at_end step n.0 (end_at n.1)
+-- at the end of a line
+last_map : {A B : Type 0} (o : Option A) (f : A → B) → (o >>= (λ x. Some (f x))) ≡ option_map f o
+last_map None f = refl
+last_map (Some x) f = refl
 
 -- a step of a number alone
 pub numbered_map : (step : ℕ → Step) (bytes : List ℕ) → numbered_step step bytes ≡ option_map step (last_number bytes)
 unfolding numbered_step last_number
-numbered_map step bytes = of_number step (dec_at greatest_number bytes)
+numbered_map step bytes = bind_map (dec_at greatest_number bytes) _ _ step (λ n. bind_map (end_at n.1) _ _ step (λ u. refl))
 
 -- a step with an object, of a client or of a commit
-both_map : (step : ℕ → Kind → ℕ → Step) (n : ℕ) (o : Option (Kind × ℕ))
-    → (o >>= (λ x. Some (step n x.0 x.1))) ≡ option_map (λ (y : ℕ × Kind × ℕ). step y.0 y.1 y.2) (o >>= (λ x. Some (n, x.0, x.1)))
-both_map step n None = refl
-both_map step n (Some o) = refl
-
-of_both : (step : ℕ → Kind → ℕ → Step) (o : Option (ℕ × List ℕ))
-    → (o >>= (λ n. object_at n.1 >>= (λ x. Some (step n.0 x.0 x.1))))
-    ≡ option_map (λ (y : ℕ × Kind × ℕ). step y.0 y.1 y.2) (o >>= (λ n. object_at n.1 >>= (λ x. Some (n.0, x.0, x.1))))
-of_both step None = refl
-of_both step (Some n) = both_map step n.0 (object_at n.1)
-
 pub with_object_map : (step : ℕ → Kind → ℕ → Step) (bytes : List ℕ)
     → step_with_object step bytes ≡ option_map (λ (y : ℕ × Kind × ℕ). step y.0 y.1 y.2) (number_and_object bytes)
 unfolding step_with_object number_and_object
-with_object_map step bytes = of_both step (dec_at greatest_number bytes)
+with_object_map step bytes =
+    let make : ℕ × Kind × ℕ → Step = (λ y. step y.0 y.1 y.2) in
+    bind_map (dec_at greatest_number bytes) _ _ make (λ n. bind_map (object_at n.1) _ _ make (λ o. refl))
 
 -- a step with an object alone
-of_object : (step : Kind → ℕ → Step) (o : Option (Kind × ℕ))
-    → (o >>= (λ x. Some (step x.0 x.1))) ≡ option_map (λ (x : Kind × ℕ). step x.0 x.1) o
-of_object step None = refl
-of_object step (Some o) = refl
-
 pub on_object_map : (step : Kind → ℕ → Step) (bytes : List ℕ)
     → step_on_object step bytes ≡ option_map (λ (x : Kind × ℕ). step x.0 x.1) (object_at bytes)
 unfolding step_on_object
-on_object_map step bytes = of_object step (object_at bytes)
-
--- a step with nothing behind its word
-of_end : (step : Step) (o : Option (Unit {0})) → (o >>= (λ u. Some step)) ≡ option_map (λ u. step) o
-of_end step None = refl
-of_end step (Some u) = refl
+on_object_map step bytes = last_map (object_at bytes) (λ x. step x.0 x.1)
 
 pub lone_map : (step : Step) (bytes : List ℕ) → lone_step step bytes ≡ option_map (λ u. step) (end_at bytes)
 unfolding lone_step
-lone_map step bytes = of_end step (end_at bytes)
+lone_map step bytes = last_map (end_at bytes) (λ u. step)

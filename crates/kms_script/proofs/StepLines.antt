@@ -4,14 +4,12 @@ use Rattle.std.specs.Prelude.{codes, IfNone, IfSome}
 use Rattle.std.specs.Option.{ForSome}
 use Rattle.std.proofs.lemmas.List.{append_cancel_right}
 use Rattle.kms_model.specs.declared.replies.Step.{Step}
-use Rattle.kms_model.specs.declared.replies.Step.TheVariants.{Begin, Lock, BackOff, Relock, Refuse, Test, Swap, Make, Signal, Claim, Write}
-use Rattle.kms_model.specs.declared.replies.Step.TheVariants.{Flush, HwDone, Vblank, Cleanup, Read, Return, Stall}
 use Rattle.kms_model.specs.Report.History.{step_line, step_words}
 use Rattle.kms_model.specs.Script.Schedules.{IsFitStep, IsSpeltOnce, step_read}
 use Rattle.kms_script.specs.Scheduled.{IsStepLine, index_in_step, step_text}
 use Rattle.kms_script.proofs.Inverted.{some_same}
 use Rattle.kms_words.proofs.Spaced.{line-fields}
-use Rattle.kms_script.proofs.StepsRead.{line_is_read}
+use Rattle.kms_script.proofs.StepsRead.{line_is_read, step_written}
 use Rattle.kms_script.proofs.StepsSpelt.{line_of_step}
 
 -- the line of a step is read as it
@@ -20,10 +18,7 @@ read_of_line bytes step line = rw line.text (line_is_read step line.fits)
 
 -- where nothing is read of bytes, no step has them as its line
 pub no_line : (bytes : List ℕ) → step_read bytes ≡ None → (step : Step) → ¬ IsStepLine bytes step
-no_line bytes none step line = clash (sym none ∙ read_of_line bytes step line)
-  where
-    clash : None ≡ Some step → ⊥
-    clash e = cc
+no_line bytes none step line = let clash : None ≡ Some step = sym none ∙ read_of_line bytes step line in absurd cc
 
 -- what is read of bytes has them as its line
 pub found_line : (bytes : List ℕ) (o : Option Step) → o ≡ step_read bytes → IfSome o (λ step. IsStepLine bytes step)
@@ -34,37 +29,10 @@ pub found_none : (bytes : List ℕ) (o : Option Step) → o ≡ step_read bytes 
 found_none bytes None e = no_line bytes (sym e)
 found_none bytes (Some step) e = tt
 
-no_index : ForSome None (λ index. index ≤ 255)
-no_index n e = absurd cc
-
-is_index : (index : ℕ) → index ≤ 255 → ForSome (Some index) (λ i. i ≤ 255)
-is_index index small n e = rw (← some_same index n e) small
-
--- the index of an object of a step that a line can spell
-small_index : (step : Step) → IsFitStep step → ForSome (index_in_step step) (λ index. index ≤ 255)
-small_index (Begin client) fits = no_index
-small_index (Lock client kind index) fits = is_index index fits.1
-small_index (BackOff client) fits = no_index
-small_index (Relock client) fits = no_index
-small_index (Refuse client) fits = no_index
-small_index (Test client) fits = no_index
-small_index (Swap client) fits = no_index
-small_index (Make client) fits = no_index
-small_index (Signal client) fits = no_index
-small_index (Claim commit) fits = no_index
-small_index (Write commit kind index) fits = is_index index fits.1
-small_index (Flush commit kind index) fits = is_index index fits.1
-small_index (HwDone commit) fits = no_index
-small_index (Vblank kind index) fits = is_index index fits
-small_index (Cleanup commit) fits = no_index
-small_index (Read client) fits = no_index
-small_index (Return client) fits = no_index
-small_index Stall fits = no_index
-
 pub found_small : (bytes : List ℕ) (o : Option Step) → o ≡ step_read bytes
     → IfSome o (λ step. ForSome (index_in_step step) (λ index. index ≤ 255))
 found_small bytes None e = tt
-found_small bytes (Some step) e = small_index step ((line_of_step bytes step (sym e)).fits)
+found_small bytes (Some step) e = (step_written step ((line_of_step bytes step (sym e)).fits)).small
 
 -- a line feed behind a step's line
 pub line_ended : (step : Step) → step_line step ≡ step_text step ++ 10 ∷ []

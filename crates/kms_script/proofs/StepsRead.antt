@@ -1,136 +1,104 @@
 -- The line of a step is read as this step.
-use Rattle.std.proofs.Common.{◌≡◌, ℕ, ◌<◌, ◌^◌, Bool, true, false, List, [], ◌∷◌, ◌++◌, cond, Some, refl, arith}
-use Rattle.std.specs.Prelude.{◌==◌, not}
+use Rattle.std.proofs.Common.{◌≡◌, ℕ, ◌≤◌, true, List, [], ◌∷◌, Option, Some, None, refl, ◌∙◌, arith}
 use Rattle.std.specs.Fmt.{decimal}
 use Rattle.std.specs.List.{list_all}
-use Rattle.std.proofs.lemmas.Bool.{and_parts}
-use Rattle.std.proofs.lemmas.Bool.Decides.{nat_tests}
+use Rattle.std.specs.Option.{ForSome}
 use Rattle.kms_model.specs.declared.objects.Kind.{Kind}
-use Rattle.kms_model.specs.declared.objects.Kind.TheVariants.{Crtc, Plane, Conn, Enc}
 use Rattle.kms_model.specs.declared.replies.Step.{Step}
 use Rattle.kms_model.specs.declared.replies.Step.TheVariants.{Begin, Lock, BackOff, Relock, Refuse, Test, Swap, Make, Signal, Claim, Write}
 use Rattle.kms_model.specs.declared.replies.Step.TheVariants.{Flush, HwDone, Vblank, Cleanup, Read, Return, Stall}
 use Rattle.kms_model.specs.Report.History.{named_object}
-use Rattle.kms_model.specs.Script.Grammar.{object}
+use Rattle.kms_model.specs.Report.Replies.{kind_name}
+use Rattle.kms_model.specs.Script.Grammar.{is_printable}
 use Rattle.kms_model.specs.Script.Schedules.{IsFitIndex, IsFitNumber, IsFitStep, greatest_number, lone_step, numbered_step, object_at}
 use Rattle.kms_model.specs.Script.Schedules.{step_of_word, step_on_object, step_read, step_with_object}
-use Rattle.kms_model.specs.Script.Words.{dec_at, field_at, from, is_digit, until}
+use Rattle.kms_model.specs.Script.Words.{field_at}
 use Rattle.kms_words.specs.Printed.{fields}
-use Rattle.kms_script.specs.Scheduled.{step_text}
-use Rattle.kms_script.proofs.Decimals.{dec_read, decimal_digits}
-
--- a byte that is no blank
-abbrev is_ink : ℕ → Bool
-is_ink b = not (b == 32)
-
--- A word without blanks ends before the next blank.
-
-until_step : (t : Bool) (b : ℕ) (bs rest : List ℕ) → not t ≡ true → until 32 (bs ++ rest) ≡ bs
-    → cond t [] (b ∷ until 32 (bs ++ rest)) ≡ b ∷ bs
-until_step true b bs rest ink e = absurd cc
-until_step false b bs rest ink e = rw e refl
-
-until_word : (w rest : List ℕ) → list_all is_ink w ≡ true → until 32 rest ≡ [] → until 32 (w ++ rest) ≡ w
-until_word [] rest ink e = e
-until_word (b ∷ bs) rest ink e =
-    let p = and_parts (is_ink b) (list_all is_ink bs) ink in
-    until_step (b == 32) b bs rest p.0 (until_word bs rest p.1 e)
-
-from_step : (t : Bool) (b : ℕ) (bs rest : List ℕ) → not t ≡ true → from 32 (bs ++ rest) ≡ rest
-    → cond t (b ∷ (bs ++ rest)) (from 32 (bs ++ rest)) ≡ rest
-from_step true b bs rest ink e = absurd cc
-from_step false b bs rest ink e = e
-
-from_word : (w rest : List ℕ) → list_all is_ink w ≡ true → from 32 rest ≡ rest → from 32 (w ++ rest) ≡ rest
-from_word [] rest ink e = e
-from_word (b ∷ bs) rest ink e =
-    let p = and_parts (is_ink b) (list_all is_ink bs) ink in
-    from_step (b == 32) b bs rest p.0 (from_word bs rest p.1 e)
-
-fields_until : (ws : List (List ℕ)) → until 32 (fields ws) ≡ []
-fields_until [] = refl
-fields_until (w ∷ ws) = refl
-
-fields_from : (ws : List (List ℕ)) → from 32 (fields ws) ≡ fields ws
-fields_from [] = refl
-fields_from (w ∷ ws) = refl
-
--- the first of several fields
-field_read : (w : List ℕ) (ws : List (List ℕ)) → list_all is_ink w ≡ true → field_at (fields (w ∷ ws)) ≡ Some (w, fields ws)
-unfolding field_at
-field_read w ws ink = rw (until_word w (fields ws) ink (fields_until ws), from_word w (fields ws) ink (fields_from ws)) refl
-
--- Numbers
-
-digit_ink : (b : ℕ) → is_digit b ≡ true → is_ink b ≡ true
-digit_ink b d = grind (arith, nat_tests)
-
-digits_ink : (ds : List ℕ) → list_all is_digit ds ≡ true → list_all is_ink ds ≡ true
-digits_ink [] d = refl
-digits_ink (b ∷ bs) d =
-    let p = and_parts (is_digit b) (list_all is_digit bs) d in
-    rw (digit_ink b p.0, digits_ink bs p.1) refl
-
-decimal_ink : (n : ℕ) → n < 2 ^ 64 → list_all is_ink (decimal n) ≡ true
-decimal_ink n small = digits_ink (decimal n) (decimal_digits n small)
-
-number_read : (n : ℕ) (ws : List (List ℕ)) → IsFitNumber n → dec_at greatest_number (fields (decimal n ∷ ws)) ≡ Some (n, fields ws)
-unfolding dec_at
-number_read n ws fits = rw (field_read (decimal n) ws (decimal_ink n (omega (arith, fits))), dec_read 4294967295 n (omega arith) fits) refl
+use Rattle.kms_script.specs.Scheduled.{index_in_step, step_text}
+use Rattle.kms_script.proofs.CommandWords.{IsWord, behind, fields_printable, inner, kind_word, number_word, wider}
+use Rattle.kms_script.proofs.Cutting.{field_of, number_of}
+use Rattle.kms_script.proofs.Inverted.{some_same}
+use Rattle.kms_script.proofs.WordsBack.{object_back}
 
 -- Objects
 
-object_ink : (kind : Kind) (index : ℕ) → IsFitIndex index → list_all is_ink (named_object kind index) ≡ true
-object_ink Crtc index fits = decimal_ink index (omega (arith, fits))
-object_ink Plane index fits = decimal_ink index (omega (arith, fits))
-object_ink Conn index fits = decimal_ink index (omega (arith, fits))
-object_ink Enc index fits = decimal_ink index (omega (arith, fits))
-
-object_of_word : (kind : Kind) (index : ℕ) → IsFitIndex index → object (named_object kind index) ≡ Some (kind, index)
-unfolding object
-object_of_word Crtc index fits = rw (dec_read 255 index (omega arith) fits) refl
-object_of_word Plane index fits = rw (dec_read 255 index (omega arith) fits) refl
-object_of_word Conn index fits = rw (dec_read 255 index (omega arith) fits) refl
-object_of_word Enc index fits = rw (dec_read 255 index (omega arith) fits) refl
+object_ink : (kind : Kind) (index : ℕ) → IsFitIndex index → IsWord 25 (named_object kind index)
+object_ink kind index fits = behind 5 20 (kind_name kind) (decimal index) (kind_word kind) (number_word index (omega (arith, fits)))
 
 object_is_read : (kind : Kind) (index : ℕ) → IsFitIndex index → object_at (fields (named_object kind index ∷ [])) ≡ Some (kind, index)
 unfolding object_at
-object_is_read kind index fits = rw (field_read (named_object kind index) [] (object_ink kind index fits)) (object_of_word kind index fits)
+object_is_read kind index fits =
+    rw (field_of (named_object kind index) [] (inner 25 (named_object kind index) (object_ink kind index fits)))
+    (object_back kind index fits)
 
--- What stands behind a step's word
+-- Steps
 
-numbered_read : (step : ℕ → Step) (n : ℕ) → IsFitNumber n → numbered_step step (fields (decimal n ∷ [])) ≡ Some (step n)
+-- what is known of a step whose line can be spelt
+pub record IsWritten (step : Step) : Type 0 where
+  pub read : step_read (step_text step) ≡ Some step
+  pub plain : list_all is_printable (step_text step) ≡ true
+  pub small : ForSome (index_in_step step) (λ index. index ≤ 255)
+
+-- a step and the fields behind its word: how its line is read, its bytes, and the index that it names
+abbrev IsOfFields : Step → (List ℕ → Option Step) → Option ℕ → List (List ℕ) → Type 0
+IsOfFields step read index ws = (step_read (step_text step) ≡ read (fields ws))
+    × (list_all is_printable (step_text step) ≡ list_all is_printable (fields ws)) × (index_in_step step ≡ index)
+
+numbered : (make : ℕ → Step) (n : ℕ) → IsFitNumber n → IsOfFields (make n) (numbered_step make) None (decimal n ∷ []) → IsWritten (make n)
 unfolding numbered_step
-numbered_read step n fits = rw (number_read n [] fits) refl
+numbered make n fits of = record {
+  read = of.0 ∙ rw (number_of greatest_number n [] (omega arith) fits) refl;
+  plain = of.1 ∙ fields_printable 20 (decimal n ∷ []) (number_word n (omega (arith, fits)), tt);
+  small = rw of.2 (λ i e. absurd cc);
+}
 
-with_object_read : (step : ℕ → Kind → ℕ → Step) (n : ℕ) (kind : Kind) (index : ℕ) → IsFitNumber n → IsFitIndex index
-    → step_with_object step (fields (decimal n ∷ named_object kind index ∷ [])) ≡ Some (step n kind index)
+is_index : (index : ℕ) → IsFitIndex index → ForSome (Some index) (λ i. i ≤ 255)
+is_index index small n e = rw (← some_same index n e) small
+
+with_object : (make : ℕ → Kind → ℕ → Step) (n : ℕ) (kind : Kind) (index : ℕ) → IsFitNumber n × IsFitIndex index
+    → IsOfFields (make n kind index) (step_with_object make) (Some index) (decimal n ∷ named_object kind index ∷ [])
+    → IsWritten (make n kind index)
 unfolding step_with_object
-with_object_read step n kind index fits small = rw (number_read n (named_object kind index ∷ []) fits, object_is_read kind index small) refl
+with_object make n kind index fits of =
+    let number = fits.0 in
+    record {
+      read = of.0 ∙ rw
+          (number_of greatest_number n (named_object kind index ∷ []) (omega arith) fits.0, object_is_read kind index fits.1) refl;
+      plain = of.1 ∙ fields_printable 25 (decimal n ∷ named_object kind index ∷ [])
+          (wider 20 25 _ (omega arith) (number_word n (omega (arith, number))), (object_ink kind index fits.1, tt));
+      small = rw of.2 (is_index index fits.1);
+    }
 
-on_object_read : (step : Kind → ℕ → Step) (kind : Kind) (index : ℕ) → IsFitIndex index
-    → step_on_object step (fields (named_object kind index ∷ [])) ≡ Some (step kind index)
+on_object : (make : Kind → ℕ → Step) (kind : Kind) (index : ℕ) → IsFitIndex index
+    → IsOfFields (make kind index) (step_on_object make) (Some index) (named_object kind index ∷ []) → IsWritten (make kind index)
 unfolding step_on_object
-on_object_read step kind index small = rw (object_is_read kind index small) refl
+on_object make kind index small of = record {
+  read = of.0 ∙ rw (object_is_read kind index small) refl;
+  plain = of.1 ∙ fields_printable 25 (named_object kind index ∷ []) (object_ink kind index small, tt);
+  small = rw of.2 (is_index index small);
+}
 
--- the line of each step
-pub line_is_read : (step : Step) → IsFitStep step → step_read (step_text step) ≡ Some step
+-- each step
+pub step_written : (step : Step) → IsFitStep step → IsWritten step
 unfolding step_read step_of_word field_at lone_step
-line_is_read (Begin client) fits = numbered_read (λ n. Begin n) client fits
-line_is_read (Lock client kind index) fits = with_object_read (λ n k i. Lock n k i) client kind index fits.0 fits.1
-line_is_read (BackOff client) fits = numbered_read (λ n. BackOff n) client fits
-line_is_read (Relock client) fits = numbered_read (λ n. Relock n) client fits
-line_is_read (Refuse client) fits = numbered_read (λ n. Refuse n) client fits
-line_is_read (Test client) fits = numbered_read (λ n. Test n) client fits
-line_is_read (Swap client) fits = numbered_read (λ n. Swap n) client fits
-line_is_read (Make client) fits = numbered_read (λ n. Make n) client fits
-line_is_read (Signal client) fits = numbered_read (λ n. Signal n) client fits
-line_is_read (Claim commit) fits = numbered_read (λ n. Claim n) commit fits
-line_is_read (Write commit kind index) fits = with_object_read (λ n k i. Write n k i) commit kind index fits.0 fits.1
-line_is_read (Flush commit kind index) fits = with_object_read (λ n k i. Flush n k i) commit kind index fits.0 fits.1
-line_is_read (HwDone commit) fits = numbered_read (λ n. HwDone n) commit fits
-line_is_read (Vblank kind index) fits = on_object_read (λ k i. Vblank k i) kind index fits
-line_is_read (Cleanup commit) fits = numbered_read (λ n. Cleanup n) commit fits
-line_is_read (Read client) fits = numbered_read (λ n. Read n) client fits
-line_is_read (Return client) fits = numbered_read (λ n. Return n) client fits
-line_is_read Stall fits = refl
+step_written (Begin n) fits = numbered Begin n fits (refl, refl, refl)
+step_written (Lock n kind index) fits = with_object Lock n kind index fits (refl, refl, refl)
+step_written (BackOff n) fits = numbered BackOff n fits (refl, refl, refl)
+step_written (Relock n) fits = numbered Relock n fits (refl, refl, refl)
+step_written (Refuse n) fits = numbered Refuse n fits (refl, refl, refl)
+step_written (Test n) fits = numbered Test n fits (refl, refl, refl)
+step_written (Swap n) fits = numbered Swap n fits (refl, refl, refl)
+step_written (Make n) fits = numbered Make n fits (refl, refl, refl)
+step_written (Signal n) fits = numbered Signal n fits (refl, refl, refl)
+step_written (Claim n) fits = numbered Claim n fits (refl, refl, refl)
+step_written (Write n kind index) fits = with_object Write n kind index fits (refl, refl, refl)
+step_written (Flush n kind index) fits = with_object Flush n kind index fits (refl, refl, refl)
+step_written (HwDone n) fits = numbered HwDone n fits (refl, refl, refl)
+step_written (Vblank kind index) fits = on_object Vblank kind index fits (refl, refl, refl)
+step_written (Cleanup n) fits = numbered Cleanup n fits (refl, refl, refl)
+step_written (Read n) fits = numbered Read n fits (refl, refl, refl)
+step_written (Return n) fits = numbered Return n fits (refl, refl, refl)
+step_written Stall fits = record { read = refl; plain = refl; small = λ i e. absurd cc }
+
+pub line_is_read : (step : Step) → IsFitStep step → step_read (step_text step) ≡ Some step
+line_is_read step fits = (step_written step fits).read

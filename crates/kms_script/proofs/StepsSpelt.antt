@@ -112,41 +112,36 @@ lone_is word made fit are bytes step e =
 
 -- A line's word says which step it is
 
--- what is read by a word that is one of several
-by_word : (word k bytes : List ℕ) (step : Step) (one other : Option Step) → (one ≡ Some step → IsStepOf k bytes step)
-    → (other ≡ Some step → IsStepOf word bytes step)
-    → cond (bytes_eq word k) one other ≡ Some step → IsStepOf word bytes step
-by_word word k bytes step one other here there e = elim (choice_some (bytes_eq word k) one other step e) [
-  | inl is ↦ rw (found word k is.0) (here is.1)
-  | inr more ↦ there more
-]
+module _ (word bytes : List ℕ) (step : Step) where
+  -- what is read by a word that is one of several
+  by_word : (k : List ℕ) (one other : Option Step) → (one ≡ Some step → IsStepOf k bytes step)
+      → (other ≡ Some step → IsStepOf word bytes step) → cond (bytes_eq word k) one other ≡ Some step → IsStepOf word bytes step
+  by_word k one other here there e = elim (choice_some (bytes_eq word k) one other step e) [
+    | inl is ↦ rw (found word k is.0) (here is.1)
+    | inr more ↦ there more
+  ]
 
-step_is : (word bytes : List ℕ) (step : Step) → step_of_word word bytes ≡ Some step → IsStepOf word bytes step
-unfolding step_of_word
-step_is word bytes step e =
-    by_word word (codes "begin") bytes step _ _ (λ h. numbered_is (codes "begin") (λ n. Begin n) (λ n f. f) (λ n. refl) bytes step h)
-    (by_word word (codes "lock") bytes step _ _ (λ h. with_object_is (codes "lock") (λ n kind index. Lock n kind index)
-    (λ n kind index f g. (f, g)) (λ n kind index. refl) bytes step h)
-    (by_word word (codes "backoff") bytes step _ _ (λ h. numbered_is (codes "backoff") (λ n. BackOff n) (λ n f. f) (λ n. refl) bytes step h)
-    (by_word word (codes "relock") bytes step _ _ (λ h. numbered_is (codes "relock") (λ n. Relock n) (λ n f. f) (λ n. refl) bytes step h)
-    (by_word word (codes "refuse") bytes step _ _ (λ h. numbered_is (codes "refuse") (λ n. Refuse n) (λ n f. f) (λ n. refl) bytes step h)
-    (by_word word (codes "test") bytes step _ _ (λ h. numbered_is (codes "test") (λ n. Test n) (λ n f. f) (λ n. refl) bytes step h)
-    (by_word word (codes "swap") bytes step _ _ (λ h. numbered_is (codes "swap") (λ n. Swap n) (λ n f. f) (λ n. refl) bytes step h)
-    (by_word word (codes "make") bytes step _ _ (λ h. numbered_is (codes "make") (λ n. Make n) (λ n f. f) (λ n. refl) bytes step h)
-    (by_word word (codes "signal") bytes step _ _ (λ h. numbered_is (codes "signal") (λ n. Signal n) (λ n f. f) (λ n. refl) bytes step h)
-    (by_word word (codes "claim") bytes step _ _ (λ h. numbered_is (codes "claim") (λ n. Claim n) (λ n f. f) (λ n. refl) bytes step h)
-    (by_word word (codes "write") bytes step _ _ (λ h. with_object_is (codes "write") (λ n kind index. Write n kind index)
-    (λ n kind index f g. (f, g)) (λ n kind index. refl) bytes step h)
-    (by_word word (codes "flush") bytes step _ _ (λ h. with_object_is (codes "flush") (λ n kind index. Flush n kind index)
-    (λ n kind index f g. (f, g)) (λ n kind index. refl) bytes step h)
-    (by_word word (codes "hwdone") bytes step _ _ (λ h. numbered_is (codes "hwdone") (λ n. HwDone n) (λ n f. f) (λ n. refl) bytes step h)
-    (by_word word (codes "vblank") bytes step _ _
-    (λ h. on_object_is (codes "vblank") (λ kind index. Vblank kind index) (λ kind index f. f) (λ kind index. refl) bytes step h)
-    (by_word word (codes "cleanup") bytes step _ _ (λ h. numbered_is (codes "cleanup") (λ n. Cleanup n) (λ n f. f) (λ n. refl) bytes step h)
-    (by_word word (codes "read") bytes step _ _ (λ h. numbered_is (codes "read") (λ n. Read n) (λ n f. f) (λ n. refl) bytes step h)
-    (by_word word (codes "return") bytes step _ _ (λ h. numbered_is (codes "return") (λ n. Return n) (λ n f. f) (λ n. refl) bytes step h)
-    (by_word word (codes "stall") bytes step _ None (λ h. lone_is (codes "stall") Stall tt refl bytes step h)
-    (nothing_read step)))))))))))))))))) e
+  step_is : step_of_word word bytes ≡ Some step → IsStepOf word bytes step
+  unfolding step_of_word
+  step_is e =
+      by_word (codes "begin") _ _ (numbered_is _ Begin (λ n f. f) (λ n. refl) bytes step)
+      (by_word (codes "lock") _ _ (with_object_is _ Lock (λ n k i f g. (f, g)) (λ n k i. refl) bytes step)
+      (by_word (codes "backoff") _ _ (numbered_is _ BackOff (λ n f. f) (λ n. refl) bytes step)
+      (by_word (codes "relock") _ _ (numbered_is _ Relock (λ n f. f) (λ n. refl) bytes step)
+      (by_word (codes "refuse") _ _ (numbered_is _ Refuse (λ n f. f) (λ n. refl) bytes step)
+      (by_word (codes "test") _ _ (numbered_is _ Test (λ n f. f) (λ n. refl) bytes step)
+      (by_word (codes "swap") _ _ (numbered_is _ Swap (λ n f. f) (λ n. refl) bytes step)
+      (by_word (codes "make") _ _ (numbered_is _ Make (λ n f. f) (λ n. refl) bytes step)
+      (by_word (codes "signal") _ _ (numbered_is _ Signal (λ n f. f) (λ n. refl) bytes step)
+      (by_word (codes "claim") _ _ (numbered_is _ Claim (λ n f. f) (λ n. refl) bytes step)
+      (by_word (codes "write") _ _ (with_object_is _ Write (λ n k i f g. (f, g)) (λ n k i. refl) bytes step)
+      (by_word (codes "flush") _ _ (with_object_is _ Flush (λ n k i f g. (f, g)) (λ n k i. refl) bytes step)
+      (by_word (codes "hwdone") _ _ (numbered_is _ HwDone (λ n f. f) (λ n. refl) bytes step)
+      (by_word (codes "vblank") _ _ (on_object_is _ Vblank (λ k i f. f) (λ k i. refl) bytes step)
+      (by_word (codes "cleanup") _ _ (numbered_is _ Cleanup (λ n f. f) (λ n. refl) bytes step)
+      (by_word (codes "read") _ _ (numbered_is _ Read (λ n f. f) (λ n. refl) bytes step)
+      (by_word (codes "return") _ _ (numbered_is _ Return (λ n f. f) (λ n. refl) bytes step)
+      (by_word (codes "stall") _ None (lone_is _ Stall tt refl bytes step) (nothing_read step)))))))))))))))))) e
 
 -- the words of a line
 joined : (bytes fields_of word rest : List ℕ) (words all : List (List ℕ)) → all ≡ word ∷ words → fields words ≡ rest

@@ -31,15 +31,33 @@ is_sized n (Ok d) next e =
     record { made = d; is = refl; counts = ok_same (resized (d.size + n) d) next fits.1 }
 is_sized n (Err why) next e = absurd cc
 
--- a row that was read spells the same, whatever the bytes so far
-pub line_is_spelt : (m : ℕ) (d next : Draft) (row : Row) → line_after d row ≡ Ok next → spelt_line (resized m d) row ≡ Some (resized m next)
+-- a row that was read
+pub record IsRow (d next : Draft) (row : Row) : Type 0 where
+  pub printable : list_all is_printable row.text ≡ true
+  pub ended : row.is_ended ≡ true
+  pub made : Draft
+  pub is : script_line d row.text ≡ Ok made
+  pub counts : resized (made.size + (length row.text + 1)) made ≡ next
+
+pub row_parts : (d next : Draft) (row : Row) → line_after d row ≡ Ok next → IsRow d next row
 unfolding line_after
-line_is_spelt m d next row e =
+row_parts d next row e =
     let bytes = unless_ok (not (list_all is_printable row.text)) Bytes _ next e in
     let cut = unless_ok (not row.is_ended) Cut _ next bytes.1 in
     let s = is_sized (length row.text + 1) (script_line d row.text) next cut.1 in
-    rw (on_from (list_all is_printable row.text) bytes.0, on_from row.is_ended cut.0, line_same m d row.text, s.is)
-    (ap (λ (x : Draft). Some (resized m x)) s.counts)
+    record {
+      printable = on_from (list_all is_printable row.text) bytes.0;
+      ended = on_from row.is_ended cut.0;
+      made = s.made;
+      is = s.is;
+      counts = s.counts;
+    }
+
+-- it spells the same, whatever the bytes so far
+pub line_is_spelt : (m : ℕ) (d next : Draft) (row : Row) → line_after d row ≡ Ok next → spelt_line (resized m d) row ≡ Some (resized m next)
+line_is_spelt m d next row e =
+    let r = row_parts d next row e in
+    rw (r.printable, r.ended, line_same m d row.text, r.is) (ap (λ (x : Draft). Some (resized m x)) r.counts)
 
 -- the draft behind a line, and what followed
 pub record Unfaulted {A : Type 0} (r : Lined) (f : Draft → Result A Fault) (x : A) : Type 0 where

@@ -1,7 +1,7 @@
 -- The words of an assignment are read as they were written, with the numbers that its names have then.
-use Rattle.std.proofs.Common.{◌≡◌, ℕ, zero, suc, ◌+◌, ◌<◌, ◌≤◌, Bool, true, false, not, List, [], ◌∷◌, ◌++◌, codes, cond, map, Option, Some}
+use Rattle.std.proofs.Common.{[], ◌≡◌, ℕ, zero, suc, ◌+◌, ◌<◌, ◌≤◌, Bool, true, false, not, List, ◌∷◌, ◌++◌, codes, cond, map, Option, Some}
 use Rattle.std.proofs.Common.{None, ℤ, pos, negsuc, refl, sym, ap, subst, ◌∙◌, arith, length}
-use Rattle.std.specs.Prelude.{◌&&◌, ◌==◌, is_some, int_le, nat_le, find}
+use Rattle.std.specs.Prelude.{◌&&◌, ◌==◌, is_some, int_le, find}
 use Rattle.std.specs.Fmt.{decimal, signed_decimal}
 use Rattle.std.specs.List.{AllByRecursion, list_all, position_or_len}
 use Rattle.std.specs.Str.{bytes_eq}
@@ -25,12 +25,13 @@ use Rattle.kms_model.specs.Script.CommandLines.{value_read, was_made, words_in}
 use Rattle.kms_model.specs.Script.Grammar.{int, is_property_byte, is_property_word, known_property, object}
 use Rattle.kms_model.specs.Script.Spelling.{assign_word, name_word, property_word, value_word}
 use Rattle.kms_model.specs.Script.WellFormed.{is_assign_in, is_integer, is_property_in, is_value_in}
-use Rattle.kms_model.specs.Script.Words.{from, is_digit, is_label, is_label_rest, is_letter, until}
+use Rattle.kms_model.specs.Script.Words.{from, is_digit, is_label, until}
 use Rattle.kms_script.specs.ReadAnew.{makes_nothing, renamed_assign, renamed_prop, renamed_value}
-use Rattle.kms_script.proofs.Cutting.{each, is_inner, number_inner, number_value}
+use Rattle.kms_script.proofs.AssignParts.{assign_is}
+use Rattle.kms_script.proofs.Cutting.{each, number_value}
 use Rattle.kms_script.proofs.Decimals.{dec_read, decimal_digits}
 use Rattle.kms_script.proofs.LabelsMade.{said_keeps}
-use Rattle.kms_script.proofs.NamesBegin.{Begins}
+use Rattle.kms_script.proofs.NamesBegin.{Begins, is, words}
 use Rattle.kms_script.proofs.SpeltAssigns.{assigns_named, value_named, words_joined}
 use Rattle.kms_script.proofs.SpeltWords.{id_word}
 
@@ -59,12 +60,6 @@ makes_none a b c one two =
       labels = λ w. two.labels w
           ∙ one.labels w;
     }
-
-abbrev words : List Name → List (List ℕ)
-words ns = map (λ n. n.word) ns
-
-abbrev is : List ℕ → Name → Bool
-is w n = bytes_eq w n.word
 
 stays_step : (t : Bool) (w : List ℕ) (n : Name) (ns : List Name) (more : List (List ℕ)) → bytes_eq w n.word ≡ t
     → position_or_len (bytes_eq w) (words (said w ns) ++ more) ≡ position_or_len (is w) ns
@@ -141,70 +136,54 @@ parts_at s (b ∷ bs) rest none =
 
 -- Objects
 
-object_back : (kind : Kind) (index : ℕ) → index ≤ 255 → object (kind_name kind ++ decimal index) ≡ Some (kind, index)
+pub object_back : (kind : Kind) (index : ℕ) → index ≤ 255 → object (kind_name kind ++ decimal index) ≡ Some (kind, index)
 unfolding object
 object_back Crtc index le = rw (dec_read 255 index (omega arith) le) refl
 object_back Plane index le = rw (dec_read 255 index (omega arith) le) refl
 object_back Conn index le = rw (dec_read 255 index (omega arith) le) refl
 object_back Enc index le = rw (dec_read 255 index (omega arith) le) refl
 
-kind_passes : (p : ℕ → Bool) → p 99 ≡ true → p 100 ≡ true → p 101 ≡ true → p 97 ≡ true → p 108 ≡ true → p 110 ≡ true → p 111 ≡ true
-    → p 112 ≡ true → p 114 ≡ true → p 116 ≡ true → (kind : Kind) → list_all p (kind_name kind) ≡ true
-kind_passes p c d e a l n o pp r t Crtc = rw (c, r, t) refl
-kind_passes p c d e a l n o pp r t Plane = rw (pp, l, a, n, e) refl
-kind_passes p c d e a l n o pp r t Conn = rw (c, o, n) refl
-kind_passes p c d e a l n o pp r t Enc = rw (e, n, c) refl
+-- no kind has a dot in its name
+no_dot : (kind : Kind) → list_all (λ b. not (b == 46)) (kind_name kind) ≡ true
+no_dot Crtc = refl
+no_dot Plane = refl
+no_dot Conn = refl
+no_dot Enc = refl
 
 -- Properties
 
 -- a property is known by its name
-record IsKnown (profile : ℕ) (p : Property) : Type 0 where
-  known : is_in_profile profile p ≡ true → known_property profile (id_word p.id) ≡ Some p.id
-  word : is_property_word (id_word p.id) ≡ true
+abbrev IsKnown : ℕ → Property → Type 0
+IsKnown profile p = is_in_profile profile p ≡ true → known_property profile (id_word p.id) ≡ Some p.id
 
 all_known : (profile : ℕ) → AllByRecursion (IsKnown profile) properties
 all_known profile = (
-  record { known = λ e. rw e refl; word = refl },
+  λ e. rw e refl,
   (
-    record { known = λ e. rw e refl; word = refl },
+    λ e. rw e refl,
     (
-      record { known = λ e. rw e refl; word = refl },
+      λ e. rw e refl,
       (
-        record { known = λ e. rw e refl; word = refl },
+        λ e. rw e refl,
         (
-          record { known = λ e. rw e refl; word = refl },
+          λ e. rw e refl,
           (
-            record { known = λ e. rw e refl; word = refl },
+            λ e. rw e refl,
             (
-              record { known = λ e. rw e refl; word = refl },
+              λ e. rw e refl,
               (
-                record { known = λ e. rw e refl; word = refl },
+                λ e. rw e refl,
                 (
-                  record { known = λ e. rw e refl; word = refl },
+                  λ e. rw e refl,
                   (
-                    record { known = λ e. rw e refl; word = refl },
+                    λ e. rw e refl,
                     (
-                      record { known = λ e. rw e refl; word = refl },
+                      λ e. rw e refl,
                       (
-                        record { known = λ e. rw e refl; word = refl },
+                        λ e. rw e refl,
                         (
-                          record { known = λ e. rw e refl; word = refl },
-                          (
-                            record { known = λ e. rw e refl; word = refl },
-                            (
-                              record { known = λ e. rw e refl; word = refl },
-                              (
-                                record { known = λ e. rw e refl; word = refl },
-                                (
-                                  record { known = λ e. rw e refl; word = refl },
-                                  (
-                                    record { known = λ e. rw e refl; word = refl },
-                                    (record { known = λ e. rw e refl; word = refl }, tt),
-                                  ),
-                                ),
-                              ),
-                            ),
-                          ),
+                          λ e. rw e refl,
+                          (λ e. rw e refl, (λ e. rw e refl, (λ e. rw e refl, (λ e. rw e refl, (λ e. rw e refl, (λ e. rw e refl, tt)))))),
                         ),
                       ),
                     ),
@@ -219,38 +198,91 @@ all_known profile = (
   ),
 )
 
+-- the name of each row is the name of a property
+abbrev is_row : Property → Bool
+is_row p = is_property_word (id_word p.id)
+
+all_rows : list_all is_row properties ≡ true
+all_rows = refl
+
 record IsNamed (profile id : ℕ) : Type 0 where
   known : known_property profile (id_word id) ≡ Some id
   word : is_property_word (id_word id) ≡ true
 
 found_step : (t : Bool) (profile id : ℕ) (p : Property) (ps : List Property) → (has_id id p && is_in_profile profile p) ≡ t
-    → IsKnown profile p
+    → IsKnown profile p → is_row p ≡ true
     → (is_some (find (λ (q : Property). has_id id q && is_in_profile profile q) ps) ≡ true → IsNamed profile id)
     → is_some (cond t (Some p) (find (λ (q : Property). has_id id q && is_in_profile profile q) ps)) ≡ true → IsNamed profile id
-found_step true profile id p ps is k more e =
+found_step true profile id p ps is known row more e =
     let both = and_parts (has_id id p) (is_in_profile profile p) is in
     let same : p.id ≡ id = eqb-true p.id id both.0 in
-    subst (IsNamed profile) same (record { known = k.known both.1; word = k.word })
-found_step false profile id p ps is k more e = more e
+    subst (IsNamed profile) same (record { known = known both.1; word = row })
+found_step false profile id p ps is known row more e = more e
 
-found : (profile id : ℕ) (ps : List Property) → AllByRecursion (IsKnown profile) ps
+found : (profile id : ℕ) (ps : List Property) → AllByRecursion (IsKnown profile) ps → list_all is_row ps ≡ true
     → is_some (find (λ (q : Property). has_id id q && is_in_profile profile q) ps) ≡ true → IsNamed profile id
-found profile id [] all e = absurd cc
-found profile id (p ∷ ps) all e =
-    found_step (has_id id p && is_in_profile profile p) profile id p ps refl all.0 (found profile id ps all.1) e
+found profile id [] all rows e = absurd cc
+found profile id (p ∷ ps) all rows e =
+    let row = and_parts (is_row p) (list_all is_row ps) rows in
+    found_step (has_id id p && is_in_profile profile p) profile id p ps refl all.0 row.0 (found profile id ps all.1 row.1) e
 
 named : (profile id : ℕ) → is_some (property_in profile id) ≡ true → IsNamed profile id
-named profile id e = found profile id properties (all_known profile) e
+named profile id e = found profile id properties (all_known profile) all_rows e
 
--- the property of a word that is written, with the names after it
-record PropBack (names : Names) (all : List (List ℕ)) (p : PropRef) : Type 0 where
-  prop : PropRef
-  after : Names
-  read : property_read names (property_word all p) ≡ (prop, after)
-  same : (last : List (List ℕ)) → Begins after last → prop ≡ renamed_prop (renumbered all last) p
-  keeps : MakesNone names after
-  stays : all ≡ words_in names → after ≡ names
-  word : is_property_word (property_word all p) ≡ true
+pub prop_word : (profile : ℕ) (all : List (List ℕ)) (p : PropRef) → is_property_in profile all p ≡ true
+    → is_property_word (property_word all p) ≡ true
+prop_word profile all (Known id) is = (named profile id is).word
+prop_word profile all (Unknown n) is = (and_parts (is_property_word (name_word all n)) _ is).0
+
+-- What was read of words that were written: with the names after it, it is what was written, where each of its names has the number
+-- that it has then.
+pub record IsBack {A : Type 0} (names : Names) (all : List (List ℕ)) (anew : (ℕ → ℕ) → A) (reads : A → Names → Type 0) : Type 0 where
+  pub value : A
+  pub after : Names
+  pub read : reads value after
+  pub same : (last : List (List ℕ)) → Begins after last → value ≡ anew (renumbered all last)
+  pub keeps : MakesNone names after
+  pub stays : all ≡ words_in names → after ≡ names
+
+-- what says no name
+plain_back : {A : Type 0} (names : Names) (all : List (List ℕ)) (x : A) (reads : A → Names → Type 0) → reads x names
+    → IsBack names all (λ f. x) reads
+plain_back names all x reads read =
+    record { value = x; after = names; read = read; same = λ last b. refl; keeps = none_made names; stays = λ are. refl }
+
+-- what says one name
+name_back : {A : Type 0} (names : Names) (all : List (List ℕ)) (make : ℕ → A) (n : ℕ) (reads : A → Names → Type 0) → n < length all
+    → reads (make (place (name_word all n) names)) (saying (name_word all n) names) → IsBack names all (λ f. make (f n)) reads
+name_back names all make n reads low read =
+    let w : List ℕ = name_word all n in
+    record {
+      value = make (place w names);
+      after = saying w names;
+      read = read;
+      same = λ last b. ap make (sym (place_stays w names last b));
+      keeps = saying_none w names;
+      stays = saying_there names all n low;
+    }
+
+both_stay : (a b c : Names) (all : List (List ℕ)) → (all ≡ words_in a → b ≡ a) → (all ≡ words_in b → c ≡ b) → all ≡ words_in a → c ≡ a
+both_stay a b c all one two are = two (are ∙ ap words_in (sym (one are))) ∙ one are
+
+-- one behind the other
+pair_back : {A B C : Type 0} (names : Names) (all : List (List ℕ)) (f : (ℕ → ℕ) → A) (g : (ℕ → ℕ) → B) (P : A → Names → Type 0)
+    (Q : B → Names → Type 0) (R : C → Names → Type 0) (pair : A → B → C) (one : IsBack names all f P) (two : IsBack one.after all g Q)
+    → ((last : List (List ℕ)) → Begins two.after last → Begins one.after last) → R (pair one.value two.value) two.after
+    → IsBack names all (λ h. pair (f h) (g h)) R
+pair_back names all f g P Q R pair one two begins read = record {
+  value = pair one.value two.value;
+  after = two.after;
+  read = read;
+  same = λ last b. rw (one.same last (begins last b), two.same last b) refl;
+  keeps = makes_none names one.after two.after one.keeps two.keeps;
+  stays = both_stay names one.after two.after all one.stays two.stays;
+}
+
+abbrev PropBack : Names → List (List ℕ) → PropRef → Type 0
+PropBack names all p = IsBack names all (λ f. renamed_prop f p) (λ q after. property_read names (property_word all p) ≡ (q, after))
 
 none_known : (o : Option ℕ) → not (is_some o) ≡ true → o ≡ None
 none_known None e = refl
@@ -258,39 +290,17 @@ none_known (Some id) e = absurd cc
 
 prop_back : (names : Names) (all : List (List ℕ)) (p : PropRef) → is_property_in names.profile all p ≡ true → PropBack names all p
 unfolding property_read
-prop_back names all (Known id) is =
-    let n = named names.profile id is in
-    record {
-      prop = Known id;
-      after = names;
-      read = rw n.known refl;
-      same = λ last b. refl;
-      keeps = none_made names;
-      stays = λ are. refl;
-      word = n.word;
-    }
+prop_back names all (Known id) is = let n = named names.profile id is in plain_back names all (Known id) _ (rw n.known refl)
 prop_back names all (Unknown n) is =
     let w : List ℕ = name_word all n in
     let parts = and_parts (is_property_word w) (not (is_some (known_property names.profile w))) is in
-    record {
-      prop = Unknown (place w names);
-      after = saying w names;
-      read = rw (none_known (known_property names.profile w) parts.1) refl;
-      same = λ last b. ap Unknown (sym (place_stays w names last b));
-      keeps = saying_none w names;
-      stays = saying_there names all n (word_low is_property_word refl all n parts.0);
-      word = parts.0;
-    }
+    name_back names all Unknown n _ (word_low is_property_word refl all n parts.0)
+    (rw (none_known (known_property names.profile w) parts.1) refl)
 
 -- Values
 
-record ValueBack (names : Names) (all : List (List ℕ)) (v : Value) : Type 0 where
-  value : Value
-  after : Names
-  read : value_read names (value_word all v) ≡ Some (value, after)
-  same : (last : List (List ℕ)) → Begins after last → value ≡ renamed_value (renumbered all last) v
-  keeps : MakesNone names after
-  stays : all ≡ words_in names → after ≡ names
+abbrev ValueBack : Names → List (List ℕ) → Value → Type 0
+ValueBack names all v = IsBack names all (λ f. renamed_value f v) (λ u after. value_read names (value_word all v) ≡ Some (u, after))
 
 never_zero : (n : ℕ) → (suc n == 0) ≡ false
 never_zero n = grind (arith, nat_tests)
@@ -316,36 +326,12 @@ unfolding value_read
 crtc_back names index le = rw (dec_read 255 index (omega arith) le) refl
 
 value_back : (names : Names) (all : List (List ℕ)) (v : Value) → is_value_in all v ≡ true → makes_nothing v ≡ true → ValueBack names all v
-value_back names all (value.Num z) is none =
-    record {
-      value = value.Num z;
-      after = names;
-      read = num_back names z is;
-      same = λ last b. refl;
-      keeps = none_made names;
-      stays = λ are. refl;
-    }
+value_back names all (value.Num z) is none = plain_back names all (value.Num z) _ (num_back names z is)
 value_back names all (value.Named label) is none =
-    let w : List ℕ = name_word all label in
-    record {
-      value = value.Named (place w names);
-      after = saying w names;
-      read = label_back names w is;
-      same = λ last b. ap value.Named (sym (place_stays w names last b));
-      keeps = saying_none w names;
-      stays = saying_there names all label (word_low is_label no_label all label is);
-    }
+    name_back names all value.Named label _ (word_low is_label no_label all label is) (label_back names (name_word all label) is)
 value_back names all (value.New label) is none = absurd cc
 value_back names all (value.Crtc index) is none =
-    record {
-      value = value.Crtc index;
-      after = names;
-      read = crtc_back names index
-          (leb-true index 255 is);
-      same = λ last b. refl;
-      keeps = none_made names;
-      stays = λ are. refl;
-    }
+    plain_back names all (value.Crtc index) _ (crtc_back names index (leb-true index 255 is))
 
 -- Assignments
 
@@ -359,7 +345,7 @@ words_back kind index prop given le is =
     each is_digit (λ b. not (b == 46)) (λ b d. passes is_digit 46 b refl d) (decimal index) (decimal_digits index (omega (arith, le))) in
     let first : list_all (λ b. not (b == 46)) front ≡ true =
     list_all-append (λ b. not (b == 46)) (kind_name kind) (decimal index)
-    ∙ and_from _ _ (kind_passes (λ b. not (b == 46)) refl refl refl refl refl refl refl refl refl refl kind) digits in
+    ∙ and_from _ _ (no_dot kind) digits in
     let bytes : list_all (λ b. not (b == 61)) prop ≡ true =
     each is_property_byte (λ b. not (b == 61)) (λ b d. passes is_property_byte 61 b refl d) prop
     (and_parts _ (list_all is_property_byte prop) is).1 in
@@ -375,128 +361,35 @@ words_back kind index prop given le is =
       is,
     ) refl
 
-both_stay : (a b c : Names) (all : List (List ℕ)) → (all ≡ words_in a → b ≡ a) → (all ≡ words_in b → c ≡ b) → all ≡ words_in a → c ≡ a
-both_stay a b c all one two are = two (are ∙ ap words_in (sym (one are))) ∙ one are
-
-record AssignBack (names : Names) (all : List (List ℕ)) (a : Assign) : Type 0 where
-  assign : Assign
-  after : Names
-  read : assign_read names (assign_word all a) ≡ Some (assign, after)
-  same : (last : List (List ℕ)) → Begins after last → assign ≡ renamed_assign (renumbered all last) a
-  keeps : MakesNone names after
-  stays : all ≡ words_in names → after ≡ names
-
-of_both : (all last : List (List ℕ)) (a : Assign) (p : PropRef) (v : Value) → p ≡ renamed_prop (renumbered all last) a.prop
-    → v ≡ renamed_value (renumbered all last) a.value
-    → record a { prop = p; value = v } ≡ renamed_assign (renumbered all last) a
-of_both all last a p v one two = rw (one, two) refl
+abbrev AssignBack : Names → List (List ℕ) → Assign → Type 0
+AssignBack names all a = IsBack names all (λ f. renamed_assign f a) (λ b after. assign_read names (assign_word all a) ≡ Some (b, after))
 
 assign_back : (names : Names) (all : List (List ℕ)) (a : Assign) → is_assign_in names.profile all a ≡ true → makes_nothing a.value ≡ true
     → AssignBack names all a
 unfolding assign_read
 assign_back names all a is none =
-    let outer = and_parts (nat_le a.index 255) (is_property_in names.profile all a.prop && is_value_in all a.value) is in
-    let inner = and_parts (is_property_in names.profile all a.prop) (is_value_in all a.value) outer.1 in
-    let p = prop_back names all a.prop inner.0 in
-    let v = value_back p.after all a.value inner.1 none in
-    let cut = words_back a.kind a.index (property_word all a.prop) (value_word all a.value) (leb-true a.index 255 outer.0) p.word in
-    record {
-      assign = record a { prop = p.prop; value = v.value };
-      after = v.after;
-      read = rw (cut, p.read, v.read) refl;
-      same =
-          λ last b. of_both all last a p.prop v.value
-          (p.same last (value_named last p.after (value_word all a.value) (v.value, v.after) v.read b).begins) (v.same last b);
-      keeps = makes_none names p.after v.after p.keeps v.keeps;
-      stays = both_stay names p.after v.after all p.stays v.stays;
-    }
+    let of = assign_is names.profile all a is in
+    let p = prop_back names all a.prop of.prop in
+    let v = value_back p.after all a.value of.value none in
+    let word = prop_word names.profile all a.prop of.prop in
+    let cut = words_back a.kind a.index (property_word all a.prop) (value_word all a.value) of.index word in
+    pair_back names all _ _ _ _ _ (λ prop value. record a { prop = prop; value = value }) p v
+    (λ last b. (value_named last p.after (value_word all a.value) (v.value, v.after) v.read b).begins) (rw (cut, p.read, v.read) refl)
 
-pub record AssignsBack (names : Names) (all : List (List ℕ)) (assigns : List Assign) : Type 0 where
-  pub sets : List Assign
-  pub after : Names
-  pub read : assigns_read names (map (assign_word all) assigns) ≡ Some (sets, after)
-  pub same : (last : List (List ℕ)) → Begins after last → sets ≡ map (renamed_assign (renumbered all last)) assigns
-  pub keeps : MakesNone names after
-  pub stays : all ≡ words_in names → after ≡ names
+abbrev pub AssignsBack : Names → List (List ℕ) → List Assign → Type 0
+AssignsBack names all assigns = IsBack names all (λ f. map (renamed_assign f) assigns)
+    (λ sets after. assigns_read names (map (assign_word all) assigns) ≡ Some (sets, after))
 
 pub assigns_back : (assigns : List Assign) (names : Names) (all : List (List ℕ)) (profile : ℕ) → names.profile ≡ profile
     → list_all (is_assign_in profile all) assigns ≡ true
     → list_all (λ a. makes_nothing a.value) assigns ≡ true → AssignsBack names all assigns
-assigns_back [] names all profile of are none = record
-    { sets = []; after = names; read = refl; same = λ last b. refl; keeps = none_made names; stays = λ are. refl }
+assigns_back [] names all profile of are none = plain_back names all [] _ refl
 assigns_back (a ∷ more) names all profile of are none =
     let are_both = and_parts (is_assign_in profile all a) (list_all (is_assign_in profile all) more) are in
     let none_both = and_parts (makes_nothing a.value) (list_all (λ (x : Assign). makes_nothing x.value) more) none in
     let own : is_assign_in names.profile all a ≡ true = ap (λ n. is_assign_in n all a) of ∙ are_both.0 in
     let one = assign_back names all a own none_both.0 in
     let rest = assigns_back more one.after all profile (one.keeps.profile ∙ of) are_both.1 none_both.1 in
-    record {
-      sets = one.assign ∷ rest.sets;
-      after = rest.after;
-      read = rw (one.read, rest.read) refl;
-      same =
-          λ last b. rw (
-            one.same last (assigns_named last (map (assign_word all) more) one.after
-                (rest.sets, rest.after) rest.read b).begins,
-            rest.same last b,
-          ) refl;
-      keeps = makes_none names one.after rest.after one.keeps rest.keeps;
-      stays = both_stay names one.after rest.after all one.stays rest.stays;
-    }
-
--- No word has a blank.
-
-label_inner : (w : List ℕ) → is_label w ≡ true → list_all is_inner w ≡ true
-unfolding is_label
-label_inner [] is = absurd cc
-label_inner (b ∷ bs) is =
-    let first = and_parts (is_letter b) (nat_le (length bs) 15 && list_all is_label_rest bs) is in
-    let rest = and_parts (nat_le (length bs) 15) (list_all is_label_rest bs) first.1 in
-    let letter : is_label_rest b ≡ true = rw first.0 refl in
-    and_from _ _ (passes is_label_rest 32 b refl letter) (each is_label_rest is_inner (λ x e. passes is_label_rest 32 x refl e) bs rest.1)
-
-signed_inner : (z : ℤ) → is_integer z ≡ true → list_all is_inner (signed_decimal z) ≡ true
-signed_inner (pos n) is = let le : n ≤ 18446744073709551615 = leb-true n 18446744073709551615 is in number_inner n (omega (arith, le))
-signed_inner (negsuc n) is =
-    let parts = and_parts (int_le (negsuc 9223372036854775807) (negsuc n)) (int_le (negsuc n) (pos 18446744073709551615)) is in
-    let low : n ≤ 9223372036854775807 = leb-true n 9223372036854775807 parts.0 in
-    number_inner (suc n) (omega (arith, low))
-
-value_inner : (all : List (List ℕ)) (v : Value) → is_value_in all v ≡ true → list_all is_inner (value_word all v) ≡ true
-value_inner all (value.Num z) is = signed_inner z is
-value_inner all (value.Named label) is = label_inner (name_word all label) is
-value_inner all (value.New label) is = label_inner (name_word all label) is
-value_inner all (value.Crtc index) is = number_inner index (let le : index ≤ 255 = leb-true index 255 is in omega (arith, le))
-
-pub prop_word : (profile : ℕ) (all : List (List ℕ)) (p : PropRef) → is_property_in profile all p ≡ true
-    → is_property_word (property_word all p) ≡ true
-prop_word profile all (Known id) is = (named profile id is).word
-prop_word profile all (Unknown n) is = (and_parts (is_property_word (name_word all n)) _ is).0
-
-assign_inner : (all : List (List ℕ)) (profile : ℕ) (a : Assign) → is_assign_in profile all a ≡ true
-    → list_all is_inner (assign_word all a) ≡ true
-assign_inner all profile a is =
-    let outer = and_parts (nat_le a.index 255) (is_property_in profile all a.prop && is_value_in all a.value) is in
-    let inner = and_parts (is_property_in profile all a.prop) (is_value_in all a.value) outer.1 in
-    let le : a.index ≤ 255 = leb-true a.index 255 outer.0 in
-    let prop : List ℕ = property_word all a.prop in
-    let given : List ℕ = value_word all a.value in
-    let bytes : list_all is_inner prop ≡ true =
-    each is_property_byte is_inner (λ b d. passes is_property_byte 32 b refl d) prop
-    (and_parts _ (list_all is_property_byte prop) (prop_word profile all a.prop inner.0)).1 in
-    let front : list_all is_inner (kind_name a.kind ++ decimal a.index) ≡ true =
-    list_all-append is_inner (kind_name a.kind) (decimal a.index)
-    ∙ and_from _ _ (kind_passes is_inner refl refl refl refl refl refl refl refl refl refl a.kind)
-    (number_inner a.index (omega (arith, le))) in
-    let back : list_all is_inner (prop ++ 61 ∷ given) ≡ true =
-    list_all-append is_inner prop (61 ∷ given) ∙ and_from _ _ bytes (value_inner all a.value inner.1) in
-    rw (words_joined (kind_name a.kind) (decimal a.index) prop given (prop ++ 61 ∷ given) (kind_name a.kind ++ decimal a.index)
-    (46 ∷ (prop ++ 61 ∷ given)) _ refl refl refl refl)
-    (list_all-append is_inner (kind_name a.kind ++ decimal a.index) (46 ∷ (prop ++ 61 ∷ given)) ∙ and_from _ _ front back)
-
-pub assigns_inner : (assigns : List Assign) (all : List (List ℕ)) (profile : ℕ) → list_all (is_assign_in profile all) assigns ≡ true
-    → list_all (list_all is_inner) (map (assign_word all) assigns) ≡ true
-assigns_inner [] all profile are = refl
-assigns_inner (a ∷ more) all profile are =
-    let both = and_parts (is_assign_in profile all a) (list_all (is_assign_in profile all) more) are in
-    and_from _ _ (assign_inner all profile a both.0) (assigns_inner more all profile both.1)
+    pair_back names all _ _ _ _ _ (λ x xs. x ∷ xs) one rest
+    (λ last b. (assigns_named last (map (assign_word all) more) one.after (rest.value, rest.after) rest.read b).begins)
+    (rw (one.read, rest.read) (refl {a = Some (one.value ∷ rest.value, rest.after)}))
