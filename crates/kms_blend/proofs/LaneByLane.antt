@@ -1,11 +1,14 @@
 -- Vectors of 16 lanes, operation by operation, and what is computed lane by lane.
-use Rattle.std.proofs.Common.{◌≡◌, ◌<◌, ◌≤◌, ℕ, ◌+◌, ◌-◌, ◌*◌, ◌/◌, ◌%◌, ◌^◌, Bool, true, false, cond, ltb, min, List, map, length}
+use Rattle.std.proofs.Common.{◌≡◌, ◌<◌, ◌≤◌, ℕ, ◌+◌, ◌-◌, ◌*◌, ◌/◌, ◌%◌, ◌^◌, Bool, true, false, bit_or, cond, eqb, ltb, min, List, map}
+use Rattle.std.proofs.Common.{length}
 use Rattle.std.proofs.Common.{replicate, slice_index, refl, sym, ap, subst, ◌∙◌, arith, w8, w16, Fits, ltb-true, ltb-false}
 use Rattle.std.proofs.lemmas.List.{get_or-map, length-map}
 use Rattle.std.proofs.lemmas.Simd.{Each1-from_get_or, Each1-get_or, get_or-chunk, get_or-put_chunk_above, get_or-put_chunk_at}
 use Rattle.std.proofs.lemmas.Simd.{get_or-put_chunk_below, get_or-replicate, get_or-sel_l, get_or-zip2, length-replicate, length-sel_l}
 use Rattle.std.proofs.lemmas.Simd.{length-zip2, tops_compared}
 use Rattle.std.proofs.Math.Nat.{mul-le-mul}
+use Rattle.std.proofs.lemmas.Bool.{eq-eqb, ne_eqb}
+use Rattle.std.specs.Int.Bits.{or_zero_l, or_zero_r}
 use lib.Lanes.{Each1, chunk, put_chunk, zip2, sel_l, top}
 use mir.Syntax.{Width}
 use mir.Val.{bits, hbits, to_z}
@@ -158,6 +161,25 @@ pub apart_of_shorts : (a b : ℕ) (t : Bool) → ltb a b ≡ t → a ≤ 65535 �
     sub16 (cond t b a) (cond t a b) ≡ apart a b
 apart_of_shorts a b true e h k = let below = ltb-true a b e in omega (arith, h, k, below)
 apart_of_shorts a b false e h k = let above = ltb-false a b e in omega (arith, h, k, above)
+
+-- how far two numbers are apart, of what each is above the other
+pub one_sided : (a b : ℕ) → bit_or (a - b) (b - a) ≡ apart a b
+one_sided a b = side (ltb a b) refl
+  where
+    side : (t : Bool) → ltb a b ≡ t → bit_or (a - b) (b - a) ≡ apart a b
+    side true e = let below = ltb-true a b e in
+        let none : a - b ≡ 0 = omega (arith, below) in rw none (or_zero_l (b - a) ∙ omega arith)
+    side false e = let above = ltb-false a b e in
+        let none : b - a ≡ 0 = omega (arith, above) in rw none (or_zero_r (a - b) ∙ omega arith)
+
+-- nothing is above, or something
+pub nothing_above : (to from above : ℕ) → above ≡ to - from → cond {A = ℕ} (eqb above 0) 255 0 ≡ cond (ltb from to) 0 255
+nothing_above to from above is = side (ltb from to) refl
+  where
+    side : (t : Bool) → ltb from to ≡ t → cond {A = ℕ} (eqb above 0) 255 0 ≡ cond t 0 255
+    side true e = let below = ltb-true from to e in ap (λ (b : Bool). cond {A = ℕ} b 255 0)
+        (ne_eqb above 0 (λ none. omega (arith, below, is, none)))
+    side false e = let over = ltb-false from to e in ap (λ (b : Bool). cond {A = ℕ} b 255 0) (eq-eqb above 0 (omega (arith, over, is)))
 
 pub apart_of_bytes : (a b : ℕ) (t : Bool) → ltb a b ≡ t → a ≤ 255 → b ≤ 255 → sub8 (cond t b a) (cond t a b) ≡ apart a b
 apart_of_bytes a b true e h k = let below = ltb-true a b e in omega (arith, h, k, below)

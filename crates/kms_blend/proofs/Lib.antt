@@ -1,2 +1,3 @@
 mod LaneByLane
 mod Moves
+mod Packed

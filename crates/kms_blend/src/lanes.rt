@@ -1,5 +1,5 @@
 //! Blending of 16 places at once, lane by lane.
-ghost use Rattle.std.specs.Prelude.{◌≡◌, ◌+◌, ◌-◌, ◌*◌, ◌/◌, ◌%◌, ◌<◌, ◌≤◌, ℕ, min, if◌then◌else◌, nat_lt, slice_index};
+ghost use Rattle.std.specs.Prelude.{◌≡◌, ◌+◌, ◌-◌, ◌*◌, ◌/◌, ◌%◌, ◌<◌, ◌≤◌, ℕ, min, if◌then◌else◌, nat_eq, nat_lt, slice_index};
 ghost use Rattle.kms_model.specs.Frames.FrameBytes.{opaque};
 ghost use Rattle.kms_blend.specs.Lanes.{HasLanes, HasSmallProducts, IsAtMost, IsTest, apart, bounded, moved};
 
@@ -19,6 +19,13 @@ fn add_short_saturating(v: u16x16, w: u16x16) -> u16x16
     v + w.simd_min(u16x16::splat(65535) - v)
 }
 
+/// What each lane of one vector of 16 bits a lane is above the other's, and 0 where it is not.
+fn subtract_saturating(v: u16x16, w: u16x16) -> u16x16
+    ensures { HasLanes result (λ i. slice_index v i - slice_index w i) }
+{
+    v - v.simd_min(w)
+}
+
 /// How far two vectors are apart.
 pub fn distances(v: u8x16, w: u8x16) -> u8x16
     ensures { HasLanes result (λ i. apart (slice_index v i) (slice_index w i)) }
@@ -33,7 +40,7 @@ pub fn short_distances(v: u16x16, w: u16x16) -> u16x16
     ensures lanes { HasLanes result (λ i. apart (slice_index v i) (slice_index w i)) }
     ensures most { IsAtMost 65025 result }
 {
-    v.abs_diff(w)
+    subtract_saturating(v, w) | subtract_saturating(w, v)
 }
 
 /// The products of two vectors of bytes.
@@ -170,10 +177,18 @@ pub fn downwards(to: u8x16, from: u8x16) -> u8x16
 pub fn short_downwards(to: u16x16, from: u16x16) -> u8x16
     ensures { HasLanes result (λ i. if nat_lt (slice_index from i) (slice_index to i) then 0 else 255) }
 {
-    let down = from
-        .simd_lt(to)
-        .select(u16x16::splat(0), u16x16::splat(255));
-    as_short_bytes(down)
+    find_zeros(subtract_saturating(to, from))
+}
+
+/// 255 where a lane is 0, else 0. The lanes are packed into signed bytes first, of which those alone are 0.
+fn find_zeros(v: u16x16) -> u8x16
+    ensures { HasLanes result (λ i. if nat_eq (slice_index v i) 0 then 255 else 0) }
+{
+    i16x16::from_le_bytes(v.to_le_bytes())
+        .simd_clamp(i16x16::splat(-128), i16x16::splat(127))
+        .cast::<i8>()
+        .simd_eq(i8x16::splat(0))
+        .select(u8x16::splat(255), u8x16::splat(0))
 }
 
 /// The channels `b`, moved so far: up where `down` is 0, to 255 at most, and down where it is 255. Downwards goes what a channel
