@@ -4,6 +4,7 @@ use Rattle.std.proofs.Common.{sym, ap, ◌∙◌, subst, arith, inl, inr, add-on
 use Rattle.std.proofs.lemmas.Bool.{and_parts, cases_eq, eq-eqb, ne_eqb, not-true}
 use Rattle.std.proofs.lemmas.List.{append-nil, get_or-set_other, get_or-set_same, length-set}
 use Rattle.std.specs.Prelude.{◌&&◌, ◌⊎◌, is_none, not, slice_get, slice_index_or, slice_set, if◌then◌else◌}
+use Rattle.kms_model.proofs.Facts.{none-is}
 use Rattle.kms_audit.proofs.Entering.{is_as_entered, last_number-push, small-step}
 use Rattle.kms_audit.proofs.Executions.{committed-executed, committed-world, entered-request, other-commits}
 use Rattle.kms_audit.proofs.Firsts.{off-push}
@@ -109,10 +110,6 @@ kept-executed t w client c showing kept crtc l few is =
 
 -- The walk behind a command that was accepted
 
-none_is : {A : Type 0} (o : Option A) → is_none o ≡ true → o ≡ None
-none_is None e = refl
-none_is (Some x) e = absurd cc
-
 module _ (s : Script) (r : Report) (place : ℕ) (old new : Walk) (e : Entry) (c : Command) (kept : IsKeptAt s r place old)
     (is : command_of s e ≡ Some c) (there : slice_get (entries_in r) place ≡ Some e)
     (more : take (place + 1) (entries_in r) ≡ take place (entries_in r) ++ e ∷ [])
@@ -162,7 +159,7 @@ module _ (s : Script) (r : Report) (place : ℕ) (old new : Walk) (e : Entry) (c
         ∙ (ap (λ x. is_entered_in s.topology before e.client (Some x)) (sym is_request) ∙ sym accepted)
 
     no_refusal : verdict s.topology before q ≡ None
-    no_refusal = none_is (verdict s.topology before q) (and_parts (is_none (verdict s.topology before q)) (not (is_test q.flags)) passes).0
+    no_refusal = none-is (verdict s.topology before q) (and_parts (is_none (verdict s.topology before q)) (not (is_test q.flags)) passes).0
 
     no_test : is_test q.flags ≡ false
     no_test = not-true (is_test q.flags) (and_parts (is_none (verdict s.topology before q)) (not (is_test q.flags)) passes).1

@@ -6,13 +6,13 @@ use Rattle.std.specs.Prelude.{map}
 use Rattle.std.specs.List.{last_or}
 use Rattle.std.specs.Option.{option_map_or}
 use Rattle.kms_audit.proofs.Firsts.{off-done, off-here-map, off-step-map}
-use Rattle.kms_audit.proofs.Leasts.{last-push}
 use Rattle.kms_audit.specs.Eventing.{ReplyFields}
 use Rattle.kms_audit.specs.Sections.{client_before, comes_behind, may_follow}
 use Rattle.kms_model.specs.declared.replies.Answered.{Answered}
 use Rattle.kms_model.specs.declared.reports.Report.{Report}
 use Rattle.kms_model.specs.Report.Right.{number_at}
 use Rattle.kms_model.specs.Report.RightAnswers.{answer_from, first_off}
+use Rattle.kms_told.proofs.Items.{last-push}
 
 -- the front of a list that is made of another, with one item more
 pub front-more : {X A : Type 0} (f : X → A) (xs : List X) (i : ℕ) (d : X) → i < length xs

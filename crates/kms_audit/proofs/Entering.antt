@@ -10,7 +10,7 @@ use Rattle.std.specs.List.{last_or, list_all}
 use Rattle.std.specs.Option.{option_map_or}
 use Rattle.kms_audit.proofs.Apart.{and_true}
 use Rattle.kms_audit.proofs.Firsts.{off-each}
-use Rattle.kms_audit.proofs.Leasts.{last-push, take-next}
+use Rattle.kms_audit.proofs.Leasts.{take-next}
 use Rattle.kms_audit.proofs.Turns.{get-some}
 use Rattle.kms_audit.specs.declared.walk.Walk.{Walk}
 use Rattle.kms_audit.specs.Walked.{IsComparedWalk, IsNextWalk, IsSmall, is_above_last, last_number}
@@ -21,6 +21,7 @@ use Rattle.kms_model.specs.declared.worlds.World.{World}
 use Rattle.kms_model.specs.Device.Serial.{Entry, command_of, serial}
 use Rattle.kms_model.specs.Report.RightAnswers.{entries_in, entry_from, entry_is_right, first_off, is_above, is_entered_in}
 use Rattle.kms_serial.specs.Commands.{Grows}
+use Rattle.kms_told.proofs.Items.{last-push}
 
 -- The last number of a client
 

@@ -1,10 +1,9 @@
 -- What the device of one thread does with a command: when it is accepted, and what stays of the values and of the number of commits.
-use Rattle.std.proofs.Common.{◌≡◌, ℕ, zero, suc, ◌+◌, ◌≤◌, Bool, true, false, List, [], ◌∷◌, length, Option, Some, None, refl, sym, ap, ◌∙◌}
+use Rattle.std.proofs.Common.{◌≡◌, ℕ, ◌+◌, ◌≤◌, Bool, true, false, List, [], ◌∷◌, Option, Some, None, refl, sym, ap, ◌∙◌}
 use Rattle.std.proofs.Common.{subst, arith}
 use Rattle.std.proofs.lemmas.Bool.{cond-false}
 use Rattle.std.specs.Prelude.{◌&&◌, is_none, not}
 use Rattle.std.specs.Option.{option_and_then}
-use Rattle.kms_audit.proofs.Leasts.{get-within}
 use Rattle.kms_laws.proofs.Modes.{from_one-in}
 use Rattle.kms_model.proofs.Facts.{by_recursion-at}
 use Rattle.kms_model.specs.declared.objects.Topology.{Topology}
@@ -32,6 +31,7 @@ use Rattle.kms_model.specs.Request.Flags.{is_test}
 use Rattle.kms_model.specs.Request.Touched.{out_fence_label}
 use Rattle.kms_model.specs.Request.Verdict.{verdict}
 use Rattle.kms_model.specs.Script.WellFormed.{IsFitClient, IsFitCommand, IsWellFormed}
+use Rattle.kms_laws.proofs.Sizes.{from_one-within}
 
 -- A request
 
@@ -116,10 +116,6 @@ other-commits t w client command.Wait e = refl
 
 -- The commands of a script
 
-some_before : {A : Type 0} (xs : List A) (n : ℕ) (x : A) → from_one xs n ≡ Some x → (1 ≤ n) × (n ≤ length xs)
-some_before xs zero x e = absurd cc
-some_before xs (suc n) x e = (omega arith, omega (arith, get-within xs n x e))
-
 -- a command of a script is of one of its clients, and may be executed
 pub record IsOfScript (client : ℕ) (c : Command) : Type 0 where
   pub some : 1 ≤ client
@@ -132,7 +128,7 @@ of-script s e c formed is = found (from_one s.clients e.client) refl is where
       → option_and_then (λ commands. from_one commands e.command) o ≡ Some c → IsOfScript e.client c
   found None at f = absurd cc
   found (Some commands) at f =
-      let place = some_before s.clients e.client commands at in
+      let place = from_one-within s.clients e.client commands at in
       record {
         some = place.0;
         few = omega (arith, place.1, formed.few);

@@ -7,6 +7,7 @@ use Rattle.std.proofs.lemmas.Option.{slice_get-get_or, slice_get-map, same_Some}
 use Rattle.std.proofs.lemmas.Slice.Eq.{bytes_eq-Decides}
 use Rattle.std.specs.List.{last_or, list_all, range_with_len}
 use Rattle.std.specs.Prelude.{◌&&◌, ◌||◌, ◌==◌, is_none, nat_le, not, option_map, slice_get, if◌then◌else◌}
+use Rattle.kms_model.proofs.Facts.{none-is}
 use Rattle.kms_audit.proofs.Firsts.{off-each}
 use Rattle.kms_audit.proofs.Tracks.{counted-cons}
 use Rattle.kms_audit.specs.Implied.{IsEnteredAt, Told, YesImplies, shown_in_journal, told_by, told_in, told_of}
@@ -202,11 +203,7 @@ late_verdict s journal q a e =
     let p = and_parts (is_none (verdict s.topology (serial s journal) q))
     (not (is_test q.flags) && may_be_refused_late s journal (serial s journal) q a) e in
     let late = (and_parts (not (is_test q.flags)) (may_be_refused_late s journal (serial s journal) q a) p.1).1 in
-    of_reply a (none_is (verdict s.topology (serial s journal) q) p.0) late where
-      none_is : (o : Option ℕ) → is_none o ≡ true → o ≡ None
-      none_is None f = refl
-      none_is (Some n) f = absurd cc
-
+    of_reply a (none-is (verdict s.topology (serial s journal) q) p.0) late where
       of_reply : (x : Reply) → verdict s.topology (serial s journal) q ≡ None → may_be_refused_late s journal (serial s journal) q x ≡ true
           → IsVerdictOnRequest s (serial s journal) q x
       of_reply (reply.Space m) is f = is

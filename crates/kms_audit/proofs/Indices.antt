@@ -11,7 +11,7 @@ use Rattle.std.specs.BTreeSet as sorted
 use Rattle.std.specs.BTreeSet.{BTreeSet}
 use Rattle.std.specs.List.{list_all, list_any, position}
 use Rattle.std.specs.Ordering.{is_eq, nat_cmp, ordering_then}
-use Rattle.std.specs.Prelude.{◌&&◌, ◌||◌, ◌==◌, cond, is_some, map, not, option_map}
+use Rattle.std.specs.Prelude.{◌&&◌, ◌||◌, ◌==◌, cond, map, not, option_map}
 use Rattle.kms_told.proofs.Items.{or_place, place_if, position-cons, position-push}
 use Rattle.kms_audit.specs.declared.index.Index.{Index}
 use Rattle.kms_audit.specs.declared.index.Lacking.{Lacking}
@@ -213,7 +213,3 @@ nothing-lacks r l are = nothing_lacks (has_answer r) (entries_in r) l.clients.ke
 pub nothing_there : (b : Bool) (n : ℕ) → (b ≡ true → n ≡ 0) → (n ≡ 0 → b ≡ true) → b ≡ (n == 0)
 nothing_there true n f g = sym (eq-eqb n 0 (f refl))
 nothing_there false n f g = sym (ne_eqb n 0 (λ e. let no = g e in absurd cc))
-
-pub none_there : {A : Type 0} (o : Option A) → is_some o ≡ false → o ≡ None
-none_there None e = refl
-none_there (Some x) e = absurd cc

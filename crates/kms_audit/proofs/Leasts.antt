@@ -8,6 +8,7 @@ use Rattle.std.specs.List.{last_or}
 use Rattle.std.specs.Option.{option_map_or}
 use Rattle.kms_audit.proofs.Firsts.{off-each}
 use Rattle.kms_model.specs.Report.RightAnswers.{first_off}
+use Rattle.kms_told.proofs.Items.{last-push}
 
 -- The front of a list, up to an item
 
@@ -15,10 +16,6 @@ pub take-next : {A : Type 0} (xs : List A) (k : ℕ) (x : A) → slice_get xs k 
 take-next [] k x g = absurd cc
 take-next (y ∷ ys) zero x g = let same : y ≡ x = cc in rw same refl
 take-next (y ∷ ys) (suc k) x g = ap (λ zs. y ∷ zs) (take-next ys k x g)
-
-pub last-push : {A : Type 0} (o : Option A) (xs : List A) (x : A) → last_or o (xs ++ x ∷ []) ≡ Some x
-last-push o [] x = refl
-last-push o (y ∷ ys) x = last-push (Some y) ys x
 
 pub last-take : {A : Type 0} (xs : List A) (k : ℕ) (x : A) → slice_get xs k ≡ Some x → last_or None (take (suc k) xs) ≡ Some x
 last-take xs k x g = rw (take-next xs k x g) (last-push None (take k xs) x)

@@ -17,7 +17,6 @@ pub mod Numbers
 pub mod Borders
 pub mod Orders
 pub mod Implying
-pub mod Pushed
 pub mod NamedCount
 pub mod Placing
 pub mod Positions

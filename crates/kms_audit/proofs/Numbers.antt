@@ -1,5 +1,5 @@
 -- The commands of a client that have R lines: they are its first ones, so many as its block has lines.
-use Rattle.std.proofs.Common.{◌≡◌, ℕ, zero, suc, ◌+◌, ◌-◌, ◌<◌, ◌≤◌, Bool, true, false, List, [], ◌∷◌, length, take, drop, Option, Some}
+use Rattle.std.proofs.Common.{◌≡◌, ℕ, zero, suc, ◌+◌, ◌-◌, ◌<◌, ◌≤◌, Bool, true, false, List, [], ◌∷◌, length, drop, Option, Some}
 use Rattle.std.proofs.Common.{None, refl, sym, ap, ◌∙◌, subst, arith, inl, inr}
 use Rattle.std.proofs.lemmas.Bool.{and_from, and_left, and_parts, cases_lt, eq-eqb, eqb-true, false_from_ne_true, le-leb, lt-leb, ne_eqb}
 use Rattle.std.proofs.lemmas.Bool.{or_from, or_left, or_right}
@@ -8,14 +8,13 @@ use Rattle.std.proofs.lemmas.List.{drop_all, drop_more}
 use Rattle.std.proofs.lemmas.List.Folds.{list_all-append, list_all-map}
 use Rattle.std.proofs.lemmas.Option.{get_or_from_slice_get}
 use Rattle.std.specs.Prelude.{◌&&◌, ◌==◌, is_some, map, nat_le, nat_lt, slice_get, slice_index_or, if◌then◌else◌}
-use Rattle.std.specs.List.{last_or, list_all, list_any, range_with_len}
+use Rattle.std.specs.List.{list_all, list_any, range_with_len}
 use Rattle.std.specs.Option.{option_and_then}
-use Rattle.kms_audit.proofs.Firsts.{off-each}
 use Rattle.kms_audit.proofs.Leasts.{get-before, get-within, last-take}
-use Rattle.kms_audit.proofs.Turns.{get-some, named-at}
+use Rattle.kms_audit.proofs.Turns.{get-some, named-at, ordered-at}
 use Rattle.kms_audit.specs.declared.order.Block.{Block}
 use Rattle.kms_audit.specs.Ordered.{AreLinesOf, IsWholeOrder, block_at, no_block}
-use Rattle.kms_audit.specs.Sections.{has_command, stands_in_order}
+use Rattle.kms_audit.specs.Sections.{stands_in_order}
 use Rattle.kms_model.specs.declared.replies.Answered.{Answered}
 use Rattle.kms_model.specs.declared.reports.Report.{Report}
 use Rattle.kms_model.specs.declared.scripts.Command.{Command}
@@ -23,7 +22,7 @@ use Rattle.kms_model.specs.declared.scripts.Script.{Script}
 use Rattle.kms_model.specs.Device.Serial.{Entry, command_of, from_one}
 use Rattle.kms_model.specs.Headline.{entry_answered}
 use Rattle.kms_model.specs.Report.Right.{commands_from}
-use Rattle.kms_model.specs.Report.RightAnswers.{answers_in, first_off, has_answer, has_place, is_answer_to, is_in_turn, is_to_entry}
+use Rattle.kms_model.specs.Report.RightAnswers.{answers_in, first_off, has_answer, is_answer_to, is_in_turn, is_to_entry}
 
 -- Two lines behind one another
 
@@ -37,18 +36,13 @@ next_number true number last x y e f = eqb-true number (last + 1) (and_parts (nu
 next_number false number last x y e f = absurd cc
 
 module _ (s : Script) (r : Report) (xs : List Answered) (stands : first_off (stands_in_order s r) [] xs ≡ None) where
-  turned_at : (k : ℕ) (a : Answered) → slice_get xs k ≡ Some a → is_in_turn r (last_or None (take k xs)) a ≡ true
-  turned_at k a g =
-      (and_parts (is_in_turn r (last_or None (take k xs)) a) (has_place r a && has_command s a)
-      (off-each (stands_in_order s r) [] xs k a stands g)).0
-
   turned_behind : (k : ℕ) (b a : Answered) → slice_get xs k ≡ Some b → slice_get xs (suc k) ≡ Some a → is_in_turn r (Some b) a ≡ true
-  turned_behind k b a h g = subst (λ o. is_in_turn r o a ≡ true) (last-take xs k b h) (turned_at (suc k) a g)
+  turned_behind k b a h g = subst (λ o. is_in_turn r o a ≡ true) (last-take xs k b h) (ordered-at s r xs stands (suc k) a g).in_turn
 
   -- the first line of a client has number 1
   first_of_client : (k : ℕ) (a : Answered) → slice_get xs k ≡ Some a
       → ((j : ℕ) (b : Answered) → suc j ≡ k → slice_get xs j ≡ Some b → b.client ≡ a.client → ⊥) → a.command ≡ 1
-  first_of_client zero a g other = eqb-true a.command 1 (turned_at zero a g)
+  first_of_client zero a g other = eqb-true a.command 1 (ordered-at s r xs stands zero a g).in_turn
   first_of_client (suc k) a g other =
       let before = get-before xs k a g in
       first_number (before.0.client == a.client) a.command

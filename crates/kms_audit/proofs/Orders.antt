@@ -1,14 +1,13 @@
 -- How far R lines stand in their order: the loop that finds it.
 use Rattle.std.proofs.Common.{◌≡◌, ℕ, ◌+◌, ◌<◌, ◌≤◌, Bool, true, false, List, [], ◌∷◌, ◌++◌, length, get_or, take, drop, Option, Some, None}
 use Rattle.std.proofs.Common.{refl, sym, ap, ◌∙◌, subst, arith}
-use Rattle.std.proofs.lemmas.Bool.{and_parts}
 use Rattle.std.proofs.lemmas.List.{length-map, length-take-le, take_all}
 use Rattle.std.specs.Prelude.{◌&&◌, is_some, replicate, slice_get}
 use Rattle.std.specs.List.{last_or}
 use Rattle.kms_audit.proofs.Borders.{front-more, last-more}
 use Rattle.kms_audit.proofs.Executions.{of-script}
 use Rattle.kms_audit.proofs.Firsts.{at-0, off-done, off-here-map, off-push, off-step-map}
-use Rattle.kms_audit.proofs.Turns.{blocks-none, blocks-push, named-at}
+use Rattle.kms_audit.proofs.Turns.{blocks-none, blocks-push, named-at, order_guards}
 use Rattle.kms_audit.specs.declared.order.Block.{Block}
 use Rattle.kms_audit.specs.Eventing.{ReplyFields}
 use Rattle.kms_audit.specs.Ordered.{AreBlocks, IsOrdered, no_block, with_line}
@@ -77,8 +76,7 @@ module _ (s : Script) (r : Report) (place : ℕ) (before : Option Answered) (blo
     own-client e =
         let t = ap (stands_in_order s r (take place (answers_in r))) line ∙ (tested ∙ e) in
         client-of s a formed
-        (and_parts (has_place r a) (has_command s a)
-        (and_parts (is_in_turn r (last_or None (take place (answers_in r))) a) (has_place r a && has_command s a) t).1).1
+        (order_guards s r (take place (answers_in r)) a t).named
 
     pub order-step : result ≡ true → (after : Option Answered) → after ≡ Some a → (new : List Block) → new ≡ with_line blocks a.client place
         → IsOrderedTo s r (place + 1) after new

@@ -9,12 +9,12 @@ use Rattle.std.specs.Option.{option_map_or}
 use Rattle.kms_audit.proofs.Borders.{front-more, last-more}
 use Rattle.kms_audit.proofs.Entering.{filter_push}
 use Rattle.kms_audit.proofs.Firsts.{off-done, off-here-map, off-step-map}
-use Rattle.kms_audit.proofs.Leasts.{last-push}
 use Rattle.kms_audit.specs.Latching.{LatchFields}
 use Rattle.kms_audit.specs.Sections.{is_placed, rises}
 use Rattle.kms_model.specs.declared.objects.Topology.{Topology}
 use Rattle.kms_model.specs.Report.Right.{LatchLine, last_count, latch_from, lines_of_crtc, number_at}
 use Rattle.kms_model.specs.Report.RightAnswers.{first_off}
+use Rattle.kms_told.proofs.Items.{last-push}
 
 -- what the loop knows of the lines before a place
 pub record IsPlacedTo (crtcs : ℕ) (lines : List LatchFields) (place : ℕ) (last : ℕ) (counts : List ℕ) : Type 0 where

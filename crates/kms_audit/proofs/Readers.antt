@@ -10,9 +10,9 @@ use Rattle.std.specs.Prelude.{if◌then◌else◌}
 use Rattle.std.specs.List.{cons_option, filter_map, last_or, position}
 use Rattle.std.specs.Option.{option_and_then, option_map_or}
 use Rattle.kms_audit.proofs.Blockwise.{get_drop, get_take}
-use Rattle.kms_told.proofs.Items.{position-cons}
+use Rattle.kms_told.proofs.Items.{last-push, position-cons}
 use Rattle.kms_audit.proofs.Entering.{filter_push}
-use Rattle.kms_audit.proofs.Leasts.{get-within, last-push}
+use Rattle.kms_audit.proofs.Leasts.{get-within}
 use Rattle.kms_audit.proofs.Tracks.{drop_get, drop_more_is, drop_none}
 use Rattle.kms_audit.specs.declared.events.Reader.{Reader}
 use Rattle.kms_audit.specs.declared.order.Block.{Block}

@@ -37,23 +37,32 @@ get-some (x ∷ xs) (suc k) l = get-some xs k (omega arith)
 pub get-same : {A : Type 0} (xs : List A) (i j : ℕ) (a b : A) → slice_get xs i ≡ Some a → slice_get xs j ≡ Some b → i ≡ j → a ≡ b
 get-same xs i j a b g h e = same_Some a b (sym g ∙ (ap (slice_get xs) e ∙ h))
 
+-- a line that stands where it may, to a command of the script
+pub record StandsInOrder (s : Script) (r : Report) (before : List Answered) (a : Answered) : Type 0 where
+  pub in_turn : is_in_turn r (last_or None before) a ≡ true
+  pub placed : has_place r a ≡ true
+  pub named : has_command s a ≡ true
+
+pub order_guards : (s : Script) (r : Report) (before : List Answered) (a : Answered) → stands_in_order s r before a ≡ true
+    → StandsInOrder s r before a
+order_guards s r before a h =
+    let first = and_parts (is_in_turn r (last_or None before) a) _ h in
+    let last = and_parts (has_place r a) _ first.1 in
+    record { in_turn = first.0; placed = last.0; named = last.1 }
+
 module _ (s : Script) (r : Report) (xs : List Answered) (stands : first_off (stands_in_order s r) [] xs ≡ None) where
-  parts_at : (k : ℕ) (a : Answered) → slice_get xs k ≡ Some a
-      → (is_in_turn r (last_or None (take k xs)) a ≡ true) × ((has_place r a && has_command s a) ≡ true)
-  parts_at k a g =
-      and_parts (is_in_turn r (last_or None (take k xs)) a) (has_place r a && has_command s a)
-      (off-each (stands_in_order s r) [] xs k a stands g)
+  pub ordered-at : (k : ℕ) (a : Answered) → slice_get xs k ≡ Some a → StandsInOrder s r (take k xs) a
+  ordered-at k a g = order_guards s r (take k xs) a (off-each (stands_in_order s r) [] xs k a stands g)
 
   pub named-at : (k : ℕ) (a : Answered) → slice_get xs k ≡ Some a → has_command s a ≡ true
-  named-at k a g = (and_parts (has_place r a) (has_command s a) (parts_at k a g).1).1
+  named-at k a g = (ordered-at k a g).named
 
   pub placed-at : (k : ℕ) (a : Answered) → slice_get xs k ≡ Some a → a.place ≤ length (entries_in r)
   placed-at k a g =
-      let p = and_parts (has_place r a) (has_command s a) (parts_at k a g).1 in
-      leb-true a.place (length (entries_in r)) (and_parts (nat_le a.place (length (entries_in r))) _ p.0).0
+      leb-true a.place (length (entries_in r)) (and_parts (nat_le a.place (length (entries_in r))) _ (ordered-at k a g).placed).0
 
   turn-at : (k : ℕ) (b a : Answered) → slice_get xs k ≡ Some b → slice_get xs (suc k) ≡ Some a → is_in_turn r (Some b) a ≡ true
-  turn-at k b a h g = subst (λ o. is_in_turn r o a ≡ true) (last-take xs k b h) (parts_at (suc k) a g).0
+  turn-at k b a h g = subst (λ o. is_in_turn r o a ≡ true) (last-take xs k b h) (ordered-at (suc k) a g).in_turn
 
   client-next : (k : ℕ) (b a : Answered) → slice_get xs k ≡ Some b → slice_get xs (suc k) ≡ Some a → b.client ≤ a.client
   client-next k b a h g =

@@ -1,7 +1,6 @@
 //! The images of the framebuffers of a picture, among those of the device of one thread.
 ghost use Rattle.std.specs.Prelude.{All, IfOk, OnOk};
-ghost use Rattle.kms_compose.specs.Images.{AreImagesIn, CanShow};
-ghost use Rattle.kms_audit.specs.Framed.{AreSeen, IsPushed};
+ghost use Rattle.kms_compose.specs.Images.{AreImagesIn, AreSeen, CanShow, IsPushed};
 ghost use Rattle.kms_model.specs.Frames.Shown.{EachCanBeShown, HasWords};
 
 use kms_compose::{FbImage, Images};

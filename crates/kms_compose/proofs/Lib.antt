@@ -3,6 +3,7 @@ pub mod Canvas
 pub mod Clipped
 pub mod Differing
 pub mod Places
+pub mod PushedImages
 pub mod Recomposed
 pub mod RowByRow
 pub mod Runs

@@ -1,5 +1,5 @@
 -- Images under the ids of framebuffers.
-use Rattle.std.specs.Prelude.{◌≡◌, ◌<◌, ℕ, ◌==◌, List, [], ◌∷◌, Option, Some, None, All, ⊤, if◌then◌else◌}
+use Rattle.std.specs.Prelude.{◌≡◌, ◌<◌, ℕ, ◌==◌, List, [], ◌∷◌, ◌++◌, Option, Some, None, All, ⊤, if◌then◌else◌}
 use Rattle.std.specs.Option.{option_map}
 use Rattle.kms_model.specs.declared.objects.Mode.{Mode}
 use Rattle.kms_model.specs.declared.pictures.FbInfo.{FbInfo}
@@ -50,3 +50,14 @@ CanShow images (On p) = All (IsShowable p.mode images) p.layers
 -- each image is that of a framebuffer among the things
 abbrev pub AreImagesIn : List Thing → List FbImage → Type 0
 AreImagesIn things images = All (λ i. image_of things i.fb ≡ Some (image_seen i.image)) images
+
+-- the images of the framebuffers of layers are found among some
+abbrev pub AreSeen : List Thing → List FbImage → List Layer → Type 0
+AreSeen things images layers = All (λ l. seen_under images l.fb.id ≡ image_of things l.fb.id) layers
+
+-- the image of a framebuffer among the things comes behind those before it
+pub record IsPushed (things : List Thing) (fb : ℕ) (old new : List FbImage) : Type 0 where
+  pub image : FbImage
+  pub pushed : new ≡ old ++ image ∷ []
+  pub id : image.fb ≡ fb
+  pub found : image_of things fb ≡ Some (image_seen image.image)

@@ -23,7 +23,7 @@ use Rattle.kms_model.specs.Script.InputLines.{Row, rows_of}
 use Rattle.kms_model.specs.Script.Spelling.{lined, spelt_line, spelt_lines}
 use Rattle.kms_model.specs.Script.WholeInput.{Draft, Lined, blank_draft, is_nil, script_line, topology_in}
 use Rattle.kms_model.specs.Script.Words.{until}
-use Rattle.kms_script.proofs.Accepted.{form_ok, ok_same, unless_ok}
+use Rattle.kms_script.proofs.Accepted.{form_ok, ok_same, second_off, unless_ok}
 use Rattle.kms_script.proofs.Inverted.{bind_some, if_some, map_some, some_same}
 use Rattle.kms_script.proofs.NamesBegin.{Begins}
 use Rattle.kms_script.proofs.ProfileStays.{command_stays}
@@ -140,10 +140,6 @@ lined_ok (Err why) next e = absurd cc
 
 at_most : (n : ℕ) → nat_lt 4096 n ≡ false → n ≤ 4096
 at_most n e = grind (arith, nat_tests)
-
-second_off : (a b : Bool) → (a || b) ≡ false → b ≡ false
-second_off true b e = absurd cc
-second_off false b e = e
 
 command_next : (t : Topology) (size : ℕ) (names : Names) (commands : List LegacyCommand) (text : List ℕ) (next : LegacyDraft)
     → names.profile ≡ t.profile → legacy_command_line (in_client t size names commands) text ≡ Ok next

@@ -48,6 +48,7 @@ use Rattle.kms_model.proofs.AppliedValues.{value-apply_unset}
 use Rattle.kms_model.proofs.ApplyLemmas.{number_or, value-apply}
 use Rattle.kms_model.proofs.ThingLemmas.{thing_numbered-labelled}
 use Rattle.kms_legacy.proofs.ScreenShown.{HasPlaced, IsLit, IsPlaced, IsPlainPlane, IsScreenOf}
+use Rattle.kms_model.proofs.Facts.{or_else-assoc}
 
 -- What labels name
 
@@ -161,10 +162,6 @@ mode_there t w crtc label allowed = there (mode_of_look (look_up w label)) (mode
 
 -- Values after assignments
 
-or_assoc : {A : Type 0} (a b c : Option A) → or_else (or_else a b) c ≡ or_else a (or_else b c)
-or_assoc None b c = refl
-or_assoc (Some x) b c = refl
-
 pub or_none : {A : Type 0} (a : Option A) → or_else a None ≡ a
 or_none None = refl
 or_none (Some x) = refl
@@ -174,7 +171,7 @@ pub last_behind : (xs ys : List Assign) (object prop : ℕ)
     → last_value (xs ++ ys) object prop ≡ or_else (last_value ys object prop) (last_value xs object prop)
 last_behind [] ys object prop = sym (or_none (last_value ys object prop))
 last_behind (a ∷ xs) ys object prop =
-    rw (last_behind xs ys object prop) (or_assoc (last_value ys object prop) (last_value xs object prop) _)
+    rw (last_behind xs ys object prop) (or_else-assoc (last_value ys object prop) (last_value xs object prop) _)
 
 -- assignments of one object alone
 abbrev pub AreOf : ℕ → List Assign → Type 0

@@ -18,7 +18,6 @@ use Rattle.kms_model.specs.declared.scripts.Assign.{Assign}
 use Rattle.kms_model.specs.declared.scripts.Request.{Request}
 use Rattle.kms_model.specs.declared.scripts.Value.TheVariants as value
 use Rattle.kms_model.specs.Device.Objects.{exists, indices_of, object_id}
-use Rattle.kms_model.specs.Device.Properties.{keeps_limits}
 use Rattle.kms_model.specs.Device.Sound.{IsDevice}
 use Rattle.kms_model.specs.Legacy.LegacyCalls.{is_number, is_rect}
 use Rattle.kms_model.specs.Legacy.Translation.{Present, asks, call_request, changes_format, conns_now, crtc_on, cursor, fb_size}
@@ -28,7 +27,7 @@ use Rattle.kms_model.specs.Request.Resolves.{IsSettableNumber}
 use Rattle.kms_model.specs.Script.Assigning.{conn_off, crtc_off, plane_off}
 use Rattle.kms_model.specs.Script.Generated.{assigns_to}
 use Rattle.kms_model.specs.Script.WellFormed.{is_assign_in, is_integer, is_label_in, is_word32}
-use Rattle.kms_model.proofs.RequestLemmas.{has_few}
+use Rattle.kms_model.proofs.TouchedLemmas.{few_objects}
 use Rattle.kms_script.specs.ReadAnew.{IsSaid, makes_nothing}
 use Rattle.kms_legacy.specs.Asked.{HasFbSize, HasModeSize}
 use Rattle.kms_legacy.specs.Translating.{IsFitCall}
@@ -222,13 +221,16 @@ conns_few t p crtc few =
 below_count : (n count : ℕ) → nat_lt n count ≡ true → count ≤ 16 → n ≤ 255
 below_count n count is few = omega (arith, ltb-true n count is, few)
 
+profile_low : (t : Topology) → IsDevice t → nat_le 1 t.profile ≡ true
+profile_low t device = (and_parts (nat_le 1 t.profile) (nat_le t.profile 2) device.profile).0
+
 pub request_said : (t : Topology) (p : Present) (mode : Option Mode) (fb : Option FbInfo) (names : List (List ℕ)) (c : LegacyCall)
     (r : Request) → IsDevice t → IsFitCall t names c → HasModeSize mode → HasFbSize fb
     → call_request t p mode fb c ≡ Ok r → IsAsked t.profile names r
 unfolding call_request
 request_said t p mode fb names (call.SetCrtc crtc label x y mode_label conn) r device fit has_mode has_fb e =
-    let few = has_few t (and_parts (keeps_limits t) _ device.legal).0 in
-    let one : nat_le 1 t.profile ≡ true = (and_parts (nat_le 1 t.profile) (nat_le t.profile 2) device.profile).0 in
+    let few = few_objects t device in
+    let one = profile_low t device in
     let of_crtc = and_parts (exists t Crtc crtc) _ fit.stands in
     let of_conn = and_parts (exists t Conn conn) _ of_crtc.1 in
     let corner = and_parts (nat_le x 65535) (nat_le y 65535) of_conn.1 in
@@ -249,8 +251,8 @@ request_said t p mode fb names (call.SetCrtc crtc label x y mode_label conn) r d
     asked_said (length off + 3 + 10) t.profile ALLOW_MODESET 0 names _ r (omega (arith, count)) refl refl
     (both_said (length off + 3) 10 t.profile names _ _ lit put) g) e
 request_said t p mode fb names (call.CrtcOff crtc) r device fit has_mode has_fb e =
-    let few = has_few t (and_parts (keeps_limits t) _ device.legal).0 in
-    let one : nat_le 1 t.profile ≡ true = (and_parts (nat_le 1 t.profile) (nat_le t.profile 2) device.profile).0 in
+    let few = few_objects t device in
+    let one = profile_low t device in
     let on_it : List ℕ = conns_now t p crtc in
     with_said t.profile names (special_plane t primary crtc) _ r (λ plane is g.
     let away = off_said t.profile names one plane (omega (arith, special_within t primary crtc plane is, few.planes)) in
@@ -259,8 +261,8 @@ request_said t p mode fb names (call.CrtcOff crtc) r device fit has_mode has_fb 
     asked_said (2 + (length on_it + 2)) t.profile ALLOW_MODESET 0 names _ r (omega (arith, conns_few t p crtc few.conns)) refl refl
     (both_said 2 (length on_it + 2) t.profile names _ _ dark tail) g) e
 request_said t p mode fb names (call.SetPlane plane crtc label dst src) r device fit has_mode has_fb e =
-    let few = has_few t (and_parts (keeps_limits t) _ device.legal).0 in
-    let one : nat_le 1 t.profile ≡ true = (and_parts (nat_le 1 t.profile) (nat_le t.profile 2) device.profile).0 in
+    let few = few_objects t device in
+    let one = profile_low t device in
     let of_plane = and_parts (exists t Plane plane) _ fit.stands in
     let of_crtc = and_parts (exists t Crtc crtc) _ of_plane.1 in
     let rects = and_parts (is_rect CRTC_X CRTC_Y CRTC_W CRTC_H dst) (is_rect SRC_X SRC_Y SRC_W SRC_H src) of_crtc.1 in
@@ -269,20 +271,20 @@ request_said t p mode fb names (call.SetPlane plane crtc label dst src) r device
     (below_count crtc t.crtcs of_crtc.0 (omega (arith, few.crtcs))) fit.named
     (of_rect CRTC_X CRTC_Y CRTC_W CRTC_H dst rects.0) (of_rect SRC_X SRC_Y SRC_W SRC_H src rects.1)) e
 request_said t p mode fb names (call.PlaneOff plane) r device fit has_mode has_fb e =
-    let few = has_few t (and_parts (keeps_limits t) _ device.legal).0 in
-    let one : nat_le 1 t.profile ≡ true = (and_parts (nat_le 1 t.profile) (nat_le t.profile 2) device.profile).0 in
+    let few = few_objects t device in
+    let one = profile_low t device in
     asked_said 2 t.profile 0 0 names _ r (omega arith) refl refl
     (off_said t.profile names one plane (below_count plane (length t.planes) fit.stands few.planes)) e
 request_said t p mode fb names (call.PageFlip crtc label event user) r device fit has_mode has_fb e =
-    let few = has_few t (and_parts (keeps_limits t) _ device.legal).0 in
-    let one : nat_le 1 t.profile ≡ true = (and_parts (nat_le 1 t.profile) (nat_le t.profile 2) device.profile).0 in
+    let few = few_objects t device in
+    let one = profile_low t device in
     let named = and_parts (is_label_in names label) (nat_lt user (2 ^ 64)) fit.named in
     with_said t.profile names (special_plane t primary crtc) _ r (λ plane is g.
     flip_said t.profile names p plane crtc label user fb event r one
     (omega (arith, special_within t primary crtc plane is, few.planes)) named.0 named.1 g) e
 request_said t p mode fb names (call.Cursor crtc label x y) r device fit has_mode has_fb e =
-    let few = has_few t (and_parts (keeps_limits t) _ device.legal).0 in
-    let one : nat_le 1 t.profile ≡ true = (and_parts (nat_le 1 t.profile) (nat_le t.profile 2) device.profile).0 in
+    let few = few_objects t device in
+    let one = profile_low t device in
     let of_crtc = and_parts (exists t Crtc crtc) _ fit.stands in
     let corner = and_parts (is_number CRTC_X x) (is_number CRTC_Y y) of_crtc.1 in
     let size = of_fb fb has_fb in
@@ -294,8 +296,8 @@ request_said t p mode fb names (call.Cursor crtc label x y) r device fit has_mod
     (sized x y (fb_size fb) (of_range CRTC_X x corner.0) (of_range CRTC_Y y corner.1) size)
     (fixed 0 0 (fb_size fb) (omega arith) (omega arith) size)) g) e
 request_said t p mode fb names (call.CursorMove crtc x y) r device fit has_mode has_fb e =
-    let few = has_few t (and_parts (keeps_limits t) _ device.legal).0 in
-    let one : nat_le 1 t.profile ≡ true = (and_parts (nat_le 1 t.profile) (nat_le t.profile 2) device.profile).0 in
+    let few = few_objects t device in
+    let one = profile_low t device in
     let of_crtc = and_parts (exists t Crtc crtc) _ fit.stands in
     let corner = and_parts (is_number CRTC_X x) (is_number CRTC_Y y) of_crtc.1 in
     with_said t.profile names (special_plane t cursor crtc) _ r (λ plane is g.
@@ -303,8 +305,8 @@ request_said t p mode fb names (call.CursorMove crtc x y) r device fit has_mode 
     asked_said 2 t.profile 0 0 names _ r (omega arith) refl refl
     (record { spelt = rw (low, one, of_range CRTC_X x corner.0, of_range CRTC_Y y corner.1) refl; nothing = refl; few = omega arith }) g) e
 request_said t p mode fb names (call.CursorOff crtc) r device fit has_mode has_fb e =
-    let few = has_few t (and_parts (keeps_limits t) _ device.legal).0 in
-    let one : nat_le 1 t.profile ≡ true = (and_parts (nat_le 1 t.profile) (nat_le t.profile 2) device.profile).0 in
+    let few = few_objects t device in
+    let one = profile_low t device in
     with_said t.profile names (special_plane t cursor crtc) _ r (λ plane is g.
     asked_said 2 t.profile 0 0 names _ r (omega arith) refl refl
     (off_said t.profile names one plane (omega (arith, special_within t cursor crtc plane is, few.planes))) g) e

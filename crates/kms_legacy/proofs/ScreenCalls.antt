@@ -18,7 +18,6 @@ use Rattle.kms_model.specs.declared.scripts.Value.TheVariants as value
 use Rattle.kms_model.specs.declared.worlds.Look.{Look}
 use Rattle.kms_model.specs.declared.worlds.World.{World}
 use Rattle.kms_model.specs.Device.Objects.{count_of, exists, object_id}
-use Rattle.kms_model.specs.Device.Properties.{keeps_limits}
 use Rattle.kms_model.specs.Device.Sound.{IsDevice, IsLawful}
 use Rattle.kms_model.specs.Legacy.LegacyCalls.{call_may_stand}
 use Rattle.kms_model.specs.Legacy.Screen.{Screen, at_plane, flipped_to, lit_in, moved_to, placed_in_mode, placed_whole, screen_after}
@@ -32,7 +31,7 @@ use Rattle.kms_model.specs.Request.Lookups.{look_up}
 use Rattle.kms_model.specs.Request.Verdict.{verdict}
 use Rattle.kms_model.specs.Script.Assigning.{conn_off, crtc_off, plane_off, unset}
 use Rattle.kms_model.specs.Script.Generated.{assigns_to}
-use Rattle.kms_model.proofs.RequestLemmas.{has_few}
+use Rattle.kms_model.proofs.TouchedLemmas.{few_objects}
 use Rattle.kms_script.specs.ReadAnew.{renamed, renamed_assign}
 use Rattle.kms_legacy.proofs.CrtcCalls.{crtc_off_kept, setcrtc_kept}
 use Rattle.kms_legacy.proofs.OneCall.{IsKeptBy, flip_kept, move_kept, off_kept, put_kept}
@@ -246,7 +245,7 @@ pub call_kept : (t : Topology) (w : World) (screen : Screen) (commits : ℕ) (mo
     → call_request t (present_in w) mode fb c ≡ Ok q → IsKeptBy t w (screen_after t mode fb c screen) commits q.assigns
 unfolding call_request screen_after
 call_kept t w screen commits mode fb (call.SetCrtc crtc label x y mode_label conn) q device lawful is stands of_mode of_fb none e =
-    let few = has_few t (and_parts (keeps_limits t) _ device.legal).0 in
+    let few = few_objects t device in
     let of_crtc = and_parts (exists t Crtc crtc) _ stands in
     let of_conn = and_parts (exists t Conn conn) _ of_crtc.1 in
     kept_with t w (with_lit crtc (lit_in mode conn) screen) commits q (special_plane t primary crtc) _
@@ -255,38 +254,38 @@ call_kept t w screen commits mode fb (call.SetCrtc crtc label x y mode_label con
     (omega (arith, special_within t primary crtc plane at, few.planes)) (ltb-true crtc (count_of t Crtc) of_crtc.0)
     (ltb-true conn (count_of t Conn) of_conn.0) lawful is of_mode of_fb none (assigns_of ALLOW_MODESET 0 _ q g)) e
 call_kept t w screen commits mode fb (call.CrtcOff crtc) q device lawful is stands of_mode of_fb none e =
-    let few = has_few t (and_parts (keeps_limits t) _ device.legal).0 in
+    let few = few_objects t device in
     kept_with t w (with_lit crtc None screen) commits q (special_plane t primary crtc) _ (λ plane. with_placed plane None) (λ plane at g.
     crtc_off_kept t w screen commits crtc plane q few.crtcs few.planes (omega (arith, special_within t primary crtc plane at, few.planes))
     (ltb-true crtc (count_of t Crtc) stands) is (assigns_of ALLOW_MODESET 0 _ q g)) e
 call_kept t w screen commits mode fb (call.SetPlane plane crtc label dst src) q device lawful is stands of_mode of_fb none e =
-    let few = has_few t (and_parts (keeps_limits t) _ device.legal).0 in
+    let few = few_objects t device in
     let of_plane = and_parts (exists t Plane plane) _ stands in
     put_kept t w screen commits plane crtc label dst src fb q few.crtcs
     (omega (arith, ltb-true plane (count_of t Plane) of_plane.0, few.planes)) lawful is of_fb none (assigns_of 0 0 _ q e)
 call_kept t w screen commits mode fb (call.PlaneOff plane) q device lawful is stands of_mode of_fb none e =
-    let few = has_few t (and_parts (keeps_limits t) _ device.legal).0 in
+    let few = few_objects t device in
     off_kept t w screen commits plane q few.crtcs (omega (arith, ltb-true plane (count_of t Plane) stands, few.planes)) is
     (assigns_of 0 0 _ q e)
 call_kept t w screen commits mode fb (call.PageFlip crtc label event user) q device lawful is stands of_mode of_fb none e =
-    let few = has_few t (and_parts (keeps_limits t) _ device.legal).0 in
+    let few = few_objects t device in
     kept_with t w screen commits q (special_plane t primary crtc) _ (with_changed (flipped_to fb)) (λ plane at g.
     flip_kept t w screen commits plane label fb q few.crtcs (special_within t primary crtc plane at)
     (omega (arith, special_within t primary crtc plane at, few.planes)) lawful is of_fb none
     (assigns_of (cond event (NONBLOCK + PAGE_FLIP_EVENT) NONBLOCK) user _ q (flip_is (present_in w) plane crtc label user fb event q g).is))
     e
 call_kept t w screen commits mode fb (call.Cursor crtc label x y) q device lawful is stands of_mode of_fb none e =
-    let few = has_few t (and_parts (keeps_limits t) _ device.legal).0 in
+    let few = few_objects t device in
     kept_with t w screen commits q (special_plane t cursor crtc) _ (λ plane. with_placed plane (placed_whole crtc x y fb)) (λ plane at g.
     put_kept t w screen commits plane crtc label (sized_at x y (fb_size fb)) (in_fixed 0 0 (fb_size fb)) fb q few.crtcs
     (omega (arith, special_within t cursor crtc plane at, few.planes)) lawful is of_fb none (assigns_of 0 0 _ q g)) e
 call_kept t w screen commits mode fb (call.CursorMove crtc x y) q device lawful is stands of_mode of_fb none e =
-    let few = has_few t (and_parts (keeps_limits t) _ device.legal).0 in
+    let few = few_objects t device in
     kept_with t w screen commits q (special_plane t cursor crtc) _ (with_changed (moved_to x y)) (λ plane at g.
     move_kept t w screen commits plane x y q few.crtcs (special_within t cursor crtc plane at)
     (omega (arith, special_within t cursor crtc plane at, few.planes)) is (assigns_of 0 0 _ q g)) e
 call_kept t w screen commits mode fb (call.CursorOff crtc) q device lawful is stands of_mode of_fb none e =
-    let few = has_few t (and_parts (keeps_limits t) _ device.legal).0 in
+    let few = few_objects t device in
     kept_with t w screen commits q (special_plane t cursor crtc) _ (λ plane. with_placed plane None) (λ plane at g.
     off_kept t w screen commits plane q few.crtcs (omega (arith, special_within t cursor crtc plane at, few.planes)) is
     (assigns_of 0 0 _ q g)) e

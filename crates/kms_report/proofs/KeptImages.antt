@@ -11,13 +11,13 @@ use Rattle.kms_model.specs.declared.worlds.Thing.{Thing}
 use Rattle.kms_model.specs.Frames.Images.{image_of}
 use Rattle.kms_model.specs.Frames.Shown.{EachCanBeShown}
 use Rattle.kms_model.specs.Things.Kept.{Seen}
-use Rattle.kms_compose.specs.Images.{AreImagesIn, CanShow, image_seen, seen_under}
+use Rattle.kms_compose.specs.Images.{AreImagesIn, CanShow, IsPushed, image_seen, seen_under}
 use Rattle.kms_compose.specs.declared.images.FbImage.{FbImage}
 use Rattle.kms_compose.proofs.SameFrames.{frame_same}
 use Rattle.kms_kept_frames.specs.declared.kept.KeptFrame.{KeptFrame}
 use Rattle.kms_kept_frames.specs.declared.screen.Screen.{Screen}
 use Rattle.kms_kept_frames.specs.Screens.{Has, IsKeptFrameOf, IsKeptFrameOver, AreKeptFramesOf, AreKeptFramesOver}
-use Rattle.kms_report.specs.Images.{IsPushed, KeepsImages, ShowsKept}
+use Rattle.kms_report.specs.Images.{KeepsImages, ShowsKept}
 
 -- what a choice comes to, by its test
 choice : (b : Bool) (x y : Option Seen) (s : Seen) (Z : Type 0) → (b ≡ true → x ≡ Some s → Z) → (b ≡ false → y ≡ Some s → Z)

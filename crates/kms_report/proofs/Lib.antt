@@ -1,11 +1,11 @@
 pub mod Decimals
-pub mod ImageLemmas
+pub mod FrameLength
 pub mod KeptImages
-pub mod StrandLemmas
 pub mod LatchText
 pub mod Pieces
 pub mod Ranges
 pub mod ReplyWords
 pub mod RightText
 pub mod SmallSteps
+pub mod StrandLemmas
 pub mod Whole

@@ -1,8 +1,8 @@
 //! The images of the framebuffers of pictures, among those of the machine.
 ghost use Rattle.std.specs.Prelude.{All, OnOk};
-ghost use Rattle.kms_compose.specs.Images.{AreImagesIn, CanShow};
+ghost use Rattle.kms_compose.specs.Images.{AreImagesIn, AreSeen, CanShow, IsPushed};
 ghost use Rattle.kms_model.specs.Frames.Shown.{EachCanBeShown, HasWords};
-ghost use Rattle.kms_report.specs.Images.{AreSeen, IsPushed, KeepsImages, things_of};
+ghost use Rattle.kms_report.specs.Images.{KeepsImages, things_of};
 
 use kms_compose::{FbImage, Images};
 use kms_core::Core;

@@ -1,9 +1,9 @@
 -- What is known of a history that is drained: where its clients stand, and what its world is.
-use Rattle.std.proofs.Common.{◌≡◌, ℕ, zero, suc, ◌+◌, ◌<◌, ◌≤◌, true, false, List, [], ◌∷◌, length, Option, Some, None, inl, inr, refl, sym}
+use Rattle.std.proofs.Common.{◌≡◌, ℕ, zero, suc, ◌+◌, ◌<◌, ◌≤◌, true, false, List, [], ◌∷◌, length, Option, Some, None, inl, inr, refl}
 use Rattle.std.proofs.Common.{ap, ◌∙◌, arith}
-use Rattle.std.specs.Prelude.{is_none, max, slice_get}
+use Rattle.std.specs.Prelude.{max, slice_get}
 use Rattle.std.specs.List.{All}
-use Rattle.std.proofs.lemmas.Bool.{and_parts, cases_lt, false≢true}
+use Rattle.std.proofs.lemmas.Bool.{cases_lt}
 use Rattle.kms_model.specs.declared.replies.Step.{Step}
 use Rattle.kms_model.specs.declared.runs.Doing.{Doing}
 use Rattle.kms_model.specs.declared.runs.Doing.TheVariants as doing
@@ -12,14 +12,14 @@ use Rattle.kms_model.specs.declared.scripts.Script.{Script}
 use Rattle.kms_model.specs.Device.Serial.{command_of, from_one}
 use Rattle.kms_model.specs.Device.World.{thing_labelled}
 use Rattle.kms_model.specs.Machine.Commits.{is_cleaned}
-use Rattle.kms_model.specs.Machine.Histories.{at, client_numbers, commit_numbers, is_at_end, is_dead, is_drained, is_history}
+use Rattle.kms_model.specs.Machine.Histories.{at, is_dead, is_drained, is_history}
 use Rattle.kms_model.specs.Machine.State.{Machine, command_at, doing_at, entry_at, first_machine, place_at}
 use Rattle.kms_model.specs.Machine.Steps.{is_idle}
 use Rattle.kms_model.specs.Script.Longer.{commands_of_last, last_client, world_after}
 use Rattle.kms_model.specs.Script.WellFormed.{IsWellFormed}
 use Rattle.kms_model.specs.Script.Words.{◌>>=◌}
+use Rattle.kms_model.proofs.Guards.{IsAtEnd, IsDrained, drained_guards}
 use Rattle.kms_model.proofs.Facts.{neither}
-use Rattle.kms_model.proofs.Items.{list_all-at}
 use Rattle.kms_laws.specs.Laws.{HasSerialWorld}
 use Rattle.kms_laws.proofs.Fitting.{idle-busy}
 use Rattle.kms_laws.proofs.Headlines.{range-in}
@@ -87,25 +87,21 @@ module _ (s : Script) (h : List Step) (formed : IsWellFormed s) (is : is_history
       let plain = plain-from s formed in
       along_counted s (Counted s) (step_counted s plain) h 0 (length h) (first_machine s.topology) (omega arith) (first_counted s plain) is
 
-  at_end : (d : ℕ) → 1 ≤ d → d < 1 + length s.clients → is_at_end s m d ≡ true
-  unfolding is_drained
-  at_end d low high = list_all-at (is_at_end s m) (client_numbers s) d (and_parts _ _ drained).0 (range-in 1 (length s.clients) d low high)
+  guards : IsDrained s m
+  guards = drained_guards s m drained
+
+  at_end : (d : ℕ) → 1 ≤ d → d < 1 + length s.clients → IsAtEnd s m d
+  at_end d low high = guards.at_end d (range-in 1 (length s.clients) d low high)
 
   all_cleaned : (j : ℕ) → j < length m.device.commits → is_cleaned m.device j ≡ true
-  unfolding is_drained
-  all_cleaned j low =
-      list_all-at (is_cleaned m.device) (commit_numbers m) j (and_parts _ _ drained).1
-      (range-in 0 (length m.device.commits) j (omega arith) (omega (arith, low)))
+  all_cleaned j low = guards.cleaned j (range-in 0 (length m.device.commits) j (omega arith) (omega (arith, low)))
 
   no_command : (d : ℕ) → command_at s m d ≡ None
   no_command d = go (command_at s m d) refl
     where
       go : (o : Option Command) → command_at s m d ≡ o → command_at s m d ≡ None
       go None e = e
-      go (Some c) e =
-          let there = command-there s (entry_at m d) c e in
-          let ends = and_parts (is_idle (doing_at m d)) _ (at_end d there.low there.high) in
-          absurd (false≢true (sym (ap is_none e) ∙ ends.1))
+      go (Some c) e = let there = command-there s (entry_at m d) c e in (at_end d there.low there.high).ended
 
   -- a number that is no client's
   beyond : (d : ℕ) → has_commands s d ≡ 0 → is_idle (doing_at m d) ≡ true
@@ -118,7 +114,7 @@ module _ (s : Script) (h : List Step) (formed : IsWellFormed s) (is : is_history
   all_idle : (d : ℕ) → is_idle (doing_at m d) ≡ true
   all_idle zero = beyond 0 refl
   all_idle (suc d) = elim (cases_lt d (length s.clients)) [
-    | inl there ↦ (and_parts (is_idle (doing_at m (suc d))) _ (at_end (suc d) (omega arith) (omega (arith, there)))).0
+    | inl there ↦ (at_end (suc d) (omega arith) (omega (arith, there))).idle
     | inr past ↦ beyond (suc d) (ap length_of (none_beyond s.clients (suc d) (omega (arith, past))))
   ]
 

@@ -2,7 +2,7 @@
 use Rattle.std.proofs.Common.{◌≡◌, ℕ, zero, suc, ◌+◌, ◌<◌, ◌≤◌, true, false, List, [], ◌∷◌, ◌++◌, length, Some, inl, inr, ◌⊎◌, append_assoc}
 use Rattle.std.proofs.Common.{append-nil, refl, sym, ap, ◌∙◌, subst, arith}
 use Rattle.std.specs.Prelude.{◌==◌}
-use Rattle.std.proofs.lemmas.Bool.{and_from, and_parts}
+use Rattle.std.proofs.lemmas.Bool.{and_from}
 use Rattle.std.proofs.lemmas.Bool.Decides.{eqb_tells, nat_tests}
 use Rattle.kms_model.specs.declared.objects.Topology.{Topology}
 use Rattle.kms_model.specs.declared.replies.Step.{Step}
@@ -15,6 +15,7 @@ use Rattle.kms_model.specs.Machine.Histories.{are_legal, at, is_history, legal, 
 use Rattle.kms_model.specs.Machine.State.{Commit, Machine, first_machine}
 use Rattle.kms_model.specs.Request.Flags.{wants_event}
 use Rattle.kms_model.specs.Script.WellFormed.{IsWellFormed}
+use Rattle.kms_model.proofs.Guards.{legal_parts}
 use Rattle.kms_model.proofs.CommitFacts.{commit_new}
 use Rattle.kms_laws.specs.TailsLeft.{CleanedTailsAreOver, TailsGetShorter, commit_of_step}
 use Rattle.kms_laws.proofs.EachStep.{each_step}
@@ -36,19 +37,15 @@ commit_behind : (t : Topology) (c : Commit) (cs : List Commit) (j : ℕ) (P : Co
 unfolding commit_at
 commit_behind t c cs j P away is = rw away is
 
-first_legal : (s : Script) (m : Machine) (step : Step) (more : List Step) → are_legal s m (step ∷ more) ≡ true → legal s m step ≡ true
-unfolding are_legal
-first_legal s m step more is = (and_parts (legal s m step) _ is).0
-
 -- where a front has no step more, what follows it is legal behind it
 split_legal : (s : Script) (m : Machine) (h more : List Step) → are_legal s m (h ++ more) ≡ true
     → (are_legal s m h ≡ true) × (are_legal s (run_steps s m h) more ≡ true)
 unfolding run_steps are_legal
 split_legal s m [] more is = (refl, is)
 split_legal s m (step ∷ h) more is =
-    let both = and_parts (legal s m step) _ is in
-    let rest = split_legal s (next s m step) h more both.1 in
-    (and_from _ _ both.0 rest.0, rest.1)
+    let all = legal_parts s m step (h ++ more) is in
+    let rest = split_legal s (next s m step) h more all.rest in
+    (and_from _ _ all.first rest.0, rest.1)
 
 module _ (s : Script) (c n : ℕ) (requests : ℕ → Request) (worlds : ℕ → World) (m0 : Machine)
     (formed : IsWellFormed s) (given : Given s c n (length m0.device.commits) requests worlds m0)
@@ -102,7 +99,7 @@ module _ (s : Script) (c n : ℕ) (requests : ℕ → Request) (worlds : ℕ →
   goes_further h [] is g = subst (λ hs. Going (at s hs)) (sym (append-nil h)) g
   goes_further h (step ∷ more) is g =
       let front = split_legal s (first_machine s.topology) h (step ∷ more) is in
-      let l = first_legal s (at s h) step more front.1 in
+      let l = (legal_parts s (at s h) step more front.1).first in
       let now : Going (next s (at s h) step) = each_step s (at s h) _ (goes_on s c n k requests worlds m0 given (at s h) g) step l
       (silent h front.0 g step l) in
       let same : at s (h ++ step ∷ []) ≡ next s (at s h) step = run-more s (first_machine s.topology) h step in

@@ -1,9 +1,9 @@
 -- What labels of modes and framebuffers name, where nothing is closed.
-use Rattle.std.proofs.Common.{◌≡◌, ℕ, Bool, true, false, List, [], ◌∷◌, pos, Option, Some, None, inl, inr, refl, sym, ap, ◌∙◌, subst}
+use Rattle.std.proofs.Common.{◌≡◌, ℕ, Bool, true, false, List, [], ◌∷◌, pos, Option, Some, None, refl, sym, ap, ◌∙◌, subst}
 use Rattle.std.specs.Prelude.{◌&&◌, ◌==◌, find, is_none, is_some, nat_eq}
 use Rattle.std.specs.List.{All}
 use Rattle.std.specs.Option.{option_and_then}
-use Rattle.std.proofs.lemmas.Bool.{and_parts, cases_Bool, cond-false, cond-true, eqb-true, false≢true}
+use Rattle.std.proofs.lemmas.Bool.{and_parts, cond-true, eqb-true, false≢true}
 use Rattle.std.proofs.Math.ListN.{get_or}
 use Rattle.kms_model.specs.declared.objects.Kind.TheVariants as kind
 use Rattle.kms_model.specs.declared.objects.Mode.{Mode}
@@ -31,6 +31,7 @@ use Rattle.kms_model.proofs.CrtcLemmas.{all_in}
 use Rattle.kms_model.proofs.Facts.{by_recursion-at}
 use Rattle.kms_model.proofs.Items.{IsIn, or_else-none}
 use Rattle.kms_model.proofs.ThingLemmas.{find-holds, find-in, thing_numbered-id}
+use Rattle.kms_laws.proofs.Quiet.{find-fails}
 
 -- Equal modes
 
@@ -86,16 +87,6 @@ look_is (look.Buffer id) m same = absurd (false≢true same)
 
 -- Searches
 
-find_none : {A : Type 0} (p : A → Bool) (xs : List A) (x : A) → find p xs ≡ None → IsIn x xs → p x ≡ false
-find_none p [] x none is = absurd is
-find_none {A} p (y ∷ ys) x none is = elim (cases_Bool (p y)) [
-  | inl here ↦ (let some : Some y ≡ None = sym (cond-true (p y) (Some y) (find p ys) here) ∙ none in absurd cc)
-  | inr away ↦ later is away (λ rest. find_none p ys x (sym (cond-false (p y) (Some y) (find p ys) away) ∙ none) rest)
-] where
-  later : IsIn x (y ∷ ys) → p y ≡ false → (IsIn x ys → p x ≡ false) → p x ≡ false
-  later (inl same) away further = ap p (sym same) ∙ away
-  later (inr rest) away further = further rest
-
 label_there : (used : Bool) (o : Option ℕ) → used ≡ true → (used && is_none o) ≡ false → (label : ℕ) × (o ≡ Some label)
 label_there true (Some label) is none = (label, refl)
 label_there true None is none = absurd cc
@@ -136,7 +127,7 @@ module _ (t : Topology) (w : World) (numbered : AreNumbered 1000 w.things) (fram
   unfolding closed_object open_mode_label
   mode_named c is has =
       let parts = or_else-none (find (lacks_mode w) (ids_of t kind.Crtc)) _ none_closed in
-      let lacks = find_none (lacks_mode w) (ids_of t kind.Crtc) c parts.first_none is in
+      let lacks = find-fails (lacks_mode w) (ids_of t kind.Crtc) c parts.first_none is in
       let label = label_there (has_mode_at w c) (mode_label w c) has lacks in
       let mode = some_there (mode_at w.things w.values c) has in
       let told : label_of_thing (find (names_mode mode.0) w.things) ≡ Some label.0 = sym
@@ -197,7 +188,7 @@ module _ (t : Topology) (w : World) (numbered : AreNumbered 1000 w.things) (fram
   unfolding closed_object open_label
   framebuffer_named p is has =
       let parts = or_else-none (find (lacks_mode w) (ids_of t kind.Crtc)) _ none_closed in
-      let lacks = find_none (lacks_framebuffer w) (ids_of t kind.Plane) p parts.second_none is in
+      let lacks = find-fails (lacks_framebuffer w) (ids_of t kind.Plane) p parts.second_none is in
       let label = label_there (has_crtc_at w p) (framebuffer_label w p) has lacks in
       let fb = fb_there (plane_at w.things w.values p).fb label.0 label.1 in
       let test = λ (x : Thing). (x.id == fb.0.id) && x.is_open in

@@ -2,9 +2,9 @@
 -- histories say of the first one.
 use Rattle.std.proofs.Common.{◌≡◌, ℕ, zero, suc, ◌+◌, ◌<◌, ◌≤◌, true, false, List, [], ◌∷◌, length, Some, None, inl, inr, refl, sym, ap}
 use Rattle.std.proofs.Common.{◌∙◌, subst, arith}
-use Rattle.std.specs.Prelude.{find, is_none}
+use Rattle.std.specs.Prelude.{find}
 use Rattle.std.specs.List.{All}
-use Rattle.std.proofs.lemmas.Bool.{and_parts, cases_lt, false≢true}
+use Rattle.std.proofs.lemmas.Bool.{cases_lt, false≢true}
 use Rattle.std.proofs.lemmas.Bool.Decides.{eqb_tells}
 use Rattle.kms_model.specs.declared.replies.Step.{Step}
 use Rattle.kms_model.specs.declared.scripts.Command.TheVariants as command
@@ -15,7 +15,7 @@ use Rattle.kms_model.specs.Device.Sound.{IsLawful}
 use Rattle.kms_model.specs.Device.World.{thing_labelled}
 use Rattle.kms_model.specs.Frames.Shown.{AreFramed}
 use Rattle.kms_model.specs.Machine.Commits.{is_cleaned, no_commit, waited_fences}
-use Rattle.kms_model.specs.Machine.Histories.{at, client_numbers, is_at_end, is_awaited, is_dead, is_drained, is_history}
+use Rattle.kms_model.specs.Machine.Histories.{at, is_awaited, is_dead, is_drained, is_history}
 use Rattle.kms_model.specs.Machine.State.{Machine, command_at, doing_at, place_at}
 use Rattle.kms_model.specs.Machine.Steps.{is_idle}
 use Rattle.kms_model.specs.Order.Suspending.{off_request, on_request}
@@ -23,7 +23,8 @@ use Rattle.kms_model.specs.Promises.{DeadNamesAFence}
 use Rattle.kms_model.specs.Request.Verdict.{verdict}
 use Rattle.kms_model.specs.Script.Longer.{IsSlept, commands_of_last, extended_after, last_client, world_after}
 use Rattle.kms_model.specs.Script.WellFormed.{IsWellFormed}
-use Rattle.kms_model.proofs.Items.{list_all-at, or_else-nones}
+use Rattle.kms_model.proofs.Guards.{IsAtEnd, drained_guards}
+use Rattle.kms_model.proofs.Items.{or_else-nones}
 use Rattle.kms_laws.specs.Ends.{EndsOver}
 use Rattle.kms_laws.specs.Longer.{StaysHistory}
 use Rattle.kms_laws.specs.TailsLeft.{CleanedTailsAreOver, TailsGetShorter}
@@ -153,11 +154,10 @@ module _ (s : Script) (h slept : List Step) (formed : IsWellFormed s) (is : IsSl
   pub drained : is_drained longer (at longer slept) ≡ true
   drained = elim ends.is_over [ inl is ↦ is | inr dead ↦ absurd (not_dead dead) ]
 
-  is_last : is_drained longer (at longer slept) ≡ true → is_at_end longer (at longer slept) (last_client s) ≡ true
-  unfolding is_drained
+  is_last : is_drained longer (at longer slept) ≡ true → IsAtEnd longer (at longer slept) (last_client s)
   is_last is =
       let count = clients_more (command.Atomic (off_request s.topology w) ∷ command.Atomic (on_request s.topology w) ∷ []) s.clients in
-      list_all-at (is_at_end longer (at longer slept)) (client_numbers longer) (last_client s) (and_parts _ _ is).0
+      (drained_guards longer (at longer slept) is).at_end (last_client s)
       (range-in 1 (length longer.clients) (last_client s) (omega arith) (omega (arith, count)))
 
   -- the last client is at its end, so both are done
@@ -168,13 +168,13 @@ module _ (s : Script) (h slept : List Step) (formed : IsWellFormed s) (is : IsSl
   ] where
     one_left : stage_at_end.done < 2 → ⊥
     one_left low =
-        let both = and_parts (is_idle (doing_at (at longer slept) (last_client s))) _ (is_last drained) in
-        let idle = (idle-busy (doing_at (at longer slept) (last_client s)) both.0).1 in
+        let end = is_last drained in
+        let idle = (idle-busy (doing_at (at longer slept) (last_client s)) end.idle).1 in
         let stands = stage_at_end.stage.stands in
         let number : (place_at (at longer slept) (last_client s)).command ≡ n + 1 + stage_at_end.done = omega (arith, idle, stands) in
         let there = ap (λ i. command_of longer (record { client = last_client s; command = i })) number
         ∙ there_at s w stage_at_end.done low in
-        false≢true (sym (ap is_none there) ∙ both.1)
+        let one = sym end.ended ∙ there in absurd cc
 
   pub both_done : Stage longer (last_client s) n k (request_at s.topology w) (world_at s.topology w) m0 2 (at longer slept)
   both_done = subst (λ i. Stage longer (last_client s) n k (request_at s.topology w) (world_at s.topology w) m0 i (at longer slept))

@@ -1,9 +1,9 @@
 -- A history that goes on with requests of one client, where all other clients are at their ends: each step keeps that so many of them
 -- are done, or does one more. The requests want no event, are no tests, may wait, and are accepted.
-use Rattle.std.proofs.Common.{◌≡◌, ◌≢◌, ℕ, zero, suc, ◌+◌, ◌<◌, ◌≤◌, Bool, true, false, List, ◌∷◌, length, Option, Some, None, inl, inr}
+use Rattle.std.proofs.Common.{◌≡◌, ◌≢◌, ℕ, zero, suc, ◌+◌, ◌<◌, ◌≤◌, true, false, List, ◌∷◌, length, Option, Some, None, inl, inr}
 use Rattle.std.proofs.Common.{refl, sym, ap, ◌∙◌, subst, arith}
-use Rattle.std.specs.Prelude.{◌&&◌, ◌||◌, is_some}
-use Rattle.std.proofs.lemmas.Bool.{and_parts, false≢true}
+use Rattle.std.specs.Prelude.{is_some}
+use Rattle.std.proofs.lemmas.Bool.{false≢true}
 use Rattle.std.proofs.lemmas.Bool.Decides.{eqb_tells}
 use Rattle.kms_model.specs.declared.objects.Topology.{Topology}
 use Rattle.kms_model.specs.declared.replies.Answered.{Answered}
@@ -23,18 +23,21 @@ use Rattle.kms_model.specs.Machine.Commits.{asks_event, is_cleaned}
 use Rattle.kms_model.specs.Machine.Effects.{backed_off, counts_vblank}
 use Rattle.kms_model.specs.Machine.Registers.{read}
 use Rattle.kms_model.specs.Machine.State.{Commit, Machine, command_at, count_at, doing_at, place_at}
-use Rattle.kms_model.specs.Machine.Steps.{is_busy, is_idle, is_making, is_signal, is_wait, lacks_space, may_refuse, may_test, ticket_of}
+use Rattle.kms_model.specs.Machine.Steps.{is_idle, is_making, is_signal, is_wait, lacks_space, may_refuse, may_test, ticket_of}
 use Rattle.kms_model.specs.Request.Flags.{is_nonblock, is_test, wants_event}
 use Rattle.kms_model.specs.Request.Sets.{obj_id}
-use Rattle.kms_model.specs.Request.Verdict.{early_in, late_in, verdict}
+use Rattle.kms_model.specs.Request.Verdict.{verdict}
+use Rattle.kms_model.proofs.Guards.{lock_guards, refuse_guards, test_guards}
+use Rattle.kms_model.proofs.Guards.IsRefusing.{Busy, Early, Full, Late}
 use Rattle.kms_model.proofs.SoundKept.{accepted-parts}
 use Rattle.kms_laws.specs.TailsLeft.{commit_of_step}
 use Rattle.kms_laws.proofs.Basics.{number_more, read_other, read_same}
 use Rattle.kms_laws.proofs.EachStep.{Carries, CarriesAnswers, CarriesLocks, CarriesTails, by_fence, latched_as, swapped_as}
-use Rattle.kms_laws.proofs.Ended.{first_place, lock-taking}
+use Rattle.kms_laws.proofs.Ended.{first_place}
 use Rattle.kms_laws.proofs.Fitting.{back-busy, contended-busy, idle-busy, returning-busy, taking-busy}
 use Rattle.kms_laws.proofs.Sizes.{answered, ended_at}
 use Rattle.kms_laws.proofs.Steps.{flushed_at}
+use Rattle.kms_model.proofs.Facts.{and_off}
 
 -- a request wants no event, is no test and may wait
 pub record IsQuiet (r : Request) : Type 0 where
@@ -42,33 +45,21 @@ pub record IsQuiet (r : Request) : Type 0 where
   pub test : is_test r.flags ≡ false
   pub waits : is_nonblock r.flags ≡ false
 
-none_left : (early held late real space busy : Bool) → early ≡ false → late ≡ false → space ≡ false → busy ≡ false
-    → (early || (held && (late || (real && (space || busy))))) ≡ true → ⊥
-none_left true held late real space busy a b c d h = absurd cc
-none_left false false late real space busy a b c d h = false≢true h
-none_left false true true real space busy a b c d h = absurd cc
-none_left false true false false space busy a b c d h = false≢true h
-none_left false true false true true busy a b c d h = absurd cc
-none_left false true false true false true a b c d h = absurd cc
-none_left false true false true false false a b c d h = false≢true h
-
-off_and : (a b : Bool) → a ≡ false → (a && b) ≡ false
-off_and true b off = absurd cc
-off_and false b off = refl
-
 -- it is not refused where it is accepted
 not_refused : (t : Topology) (m : Machine) (client : ℕ) (r : Request) → IsQuiet r → verdict t m.device.world r ≡ None
     → may_refuse t m client r ≡ true → ⊥
-unfolding may_refuse lacks_space
+unfolding lacks_space
 not_refused t m client r quiet accepted h =
     let parts = accepted-parts t m.device.world r accepted in
-    none_left (is_some (early_in t m.device.world r)) _ (is_some (late_in t m.device.world r)) _ _ (is_busy t m r)
-    (ap is_some parts.first_none) (ap is_some parts.second_none) (off_and (wants_event r.flags) _ quiet.event)
-    (off_and (is_nonblock r.flags) _ quiet.waits) h
+    elim (refuse_guards t m client r h) [
+      | Early early ↦ false≢true (sym (ap is_some parts.first_none) ∙ early)
+      | Late held late ↦ false≢true (sym (ap is_some parts.second_none) ∙ late)
+      | Full held real full ↦ false≢true (sym (and_off (wants_event r.flags) _ quiet.event) ∙ full)
+      | Busy held real nonblock pending ↦ false≢true (sym quiet.waits ∙ nonblock)
+    ]
 
 no_test : (t : Topology) (m : Machine) (client : ℕ) (r : Request) → IsQuiet r → may_test t m client r ≡ true → ⊥
-unfolding may_test
-no_test t m client r quiet h = false≢true (sym quiet.test ∙ (and_parts (is_test r.flags) _ h).0)
+no_test t m client r quiet h = false≢true (sym quiet.test ∙ (test_guards t m client r h).test)
 
 -- where a client of a machine begins, and what it is to do
 module _ (s : Script) (c n k : ℕ) (requests : ℕ → Request) (worlds : ℕ → World) (m0 : Machine) where
@@ -206,14 +197,15 @@ module _ (s : Script) (c n k : ℕ) (requests : ℕ → Request) (worlds : ℕ �
           (λ e apart. refl) refl g;
       meets = λ d kind index holder is_there lock held. by_client _ d
           (λ apart. absurd (let idle = (idle-busy (doing_at m d) (no_doing d apart)).0 in
-          let at_work = (taking-busy (doing_at m d) (lock-taking s m d (object_id kind index) lock)).0 in omega (arith, idle, at_work)))
+          let at_work = (taking-busy (doing_at m d) (lock_guards s m d (object_id kind index) lock).reaching.taking).0 in
+          omega (arith, idle, at_work)))
           (λ same. put d _ (record {
             command = (place_at m d).command;
             doing = doing.MustBackOff (record { 0 = ticket_of (doing_at m d) })
                 (obj_id (object_id kind index));
           }) same
           (record { world = refl; commits = refl; journal = refl; replies = refl; events = refl; cleaned = λ i is. is }) refl
-          (let z = (taking-busy (doing_at m d) (lock-taking s m d (object_id kind index) lock)).1 in omega (arith, z)));
+          (let z = (taking-busy (doing_at m d) (lock_guards s m d (object_id kind index) lock).reaching.taking).1 in omega (arith, z)));
       backs = λ d back. by_client _ d
           (λ apart. absurd (let idle = (idle-busy (doing_at m d) (no_doing d apart)).0 in
           let at_work = (back-busy (doing_at m d) back).0.0 in omega (arith, idle, at_work)))

@@ -1,8 +1,8 @@
 use Rattle.std.proofs.Common.{List, subst}
 use Rattle.std.proofs.lemmas.List.{take_all}
 use Rattle.kms_model.specs.declared.pictures.Layer.{Layer}
-use Rattle.kms_audit.specs.Framed.{AreSeen}
-use Rattle.kms_audit.proofs.Pushed.{pushed-images, pushed-more}
+use Rattle.kms_compose.specs.Images.{AreSeen}
+use Rattle.kms_compose.proofs.PushedImages.{pushed-images, pushed-more}
 use Rattle.kms_audit.proofs.images.push_layers.Goals as goal
 
 pub loop-layer-preserved : goal.loop-layer-preserved

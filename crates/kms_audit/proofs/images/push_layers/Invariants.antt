@@ -1,6 +1,5 @@
 use Rattle.std.proofs.Common.{take}
-use Rattle.kms_audit.specs.Framed.{AreSeen}
-use Rattle.kms_compose.specs.Images.{AreImagesIn}
+use Rattle.kms_compose.specs.Images.{AreImagesIn, AreSeen}
 use Rattle.kms_audit.proofs.images.push_layers.Given as goal
 
 abbrev pub invariant-loop-layer : goal.invariant-loop-layer

@@ -1,8 +1,9 @@
 use Rattle.std.proofs.Common.{List, subst}
 use Rattle.std.proofs.lemmas.List.{take_all}
 use Rattle.kms_model.specs.declared.pictures.Layer.{Layer}
-use Rattle.kms_report.specs.Images.{AreSeen, things_of}
-use Rattle.kms_report.proofs.ImageLemmas.{pushed-images, pushed-more}
+use Rattle.kms_compose.specs.Images.{AreSeen}
+use Rattle.kms_compose.proofs.PushedImages.{pushed-images, pushed-more}
+use Rattle.kms_report.specs.Images.{things_of}
 use Rattle.kms_report.proofs.KeptImages.{keeps-then, pushed-keeps}
 use Rattle.kms_report.proofs.images.push_layers.Goals as goal
 

@@ -1,6 +1,6 @@
 use Rattle.std.proofs.Common.{take}
-use Rattle.kms_compose.specs.Images.{AreImagesIn}
-use Rattle.kms_report.specs.Images.{AreSeen, KeepsImages, things_of}
+use Rattle.kms_compose.specs.Images.{AreImagesIn, AreSeen}
+use Rattle.kms_report.specs.Images.{KeepsImages, things_of}
 use Rattle.kms_report.proofs.images.push_layers.Given as goal
 
 abbrev pub invariant-loop-layer : goal.invariant-loop-layer

@@ -3,7 +3,7 @@ use Rattle.kms_model.specs.Frames.FrameBytes.{frame_bytes, frame_of, word_of}
 use Rattle.kms_core.specs.Run.{machine}
 use Rattle.kms_report.specs.Images.{things_of}
 use Rattle.kms_report.specs.Telling.{latch_front, lit_line}
-use Rattle.kms_report.proofs.ImageLemmas.{length-frame}
+use Rattle.kms_report.proofs.FrameLength.{length-frame}
 use Rattle.kms_report.proofs.KeptImages.{kept-stands}
 use Rattle.kms_report.proofs.LatchText.{on-line}
 use Rattle.kms_report.proofs.latches.push_latch.Goals as goal

@@ -1,20 +1,14 @@
--- The images of a picture's framebuffers, and the length of its frame.
-use Rattle.std.proofs.Common.{◌≡◌, ℕ, ◌+◌, ◌*◌, ◌<◌, Bool, true, false, cond, eqb, List, [], ◌∷◌, ◌++◌, length, get_or, take, Option, Some}
-use Rattle.std.proofs.Common.{None, refl, sym, ap, ◌∙◌, subst}
-use Rattle.std.proofs.Math.Nat.{mul_comm, mul_assoc}
+-- The images of a picture's framebuffers.
+use Rattle.std.proofs.Common.{◌≡◌, ℕ, ◌+◌, ◌<◌, Bool, true, false, cond, eqb, List, [], ◌∷◌, ◌++◌, length, get_or, take, Option, Some, None}
+use Rattle.std.proofs.Common.{refl, sym, ap, ◌∙◌, subst}
 use Rattle.std.proofs.lemmas.Bool.{eq-eqb, cond-true, cond-false, eqb-true}
 use Rattle.std.proofs.lemmas.List.Elements.{All-push, All-head, All-tail, All-more, All-weaker}
 use Rattle.kms_model.specs.declared.pictures.Layer.{Layer}
-use Rattle.kms_model.specs.declared.pictures.Shown.{Shown}
 use Rattle.kms_model.specs.declared.worlds.Thing.{Thing}
-use Rattle.kms_model.specs.Frames.FrameBytes.{pixel, row_bytes, frame_of}
-use Rattle.kms_model.specs.declared.pictures.Picture.TheVariants.{On}
 use Rattle.kms_model.specs.Frames.Images.{image_of}
 use Rattle.kms_model.specs.Things.Kept.{Seen}
-use Rattle.kms_compose.specs.Images.{AreImagesIn, image_seen, seen_under}
+use Rattle.kms_compose.specs.Images.{AreImagesIn, AreSeen, IsPushed, image_seen, seen_under}
 use Rattle.kms_compose.specs.declared.images.FbImage.{FbImage}
-use Rattle.kms_compose.proofs.Canvas.{range_length}
-use Rattle.kms_report.specs.Images.{AreSeen, IsPushed}
 
 -- One image more
 
@@ -24,8 +18,8 @@ IsImageIn things i = image_of things i.fb ≡ Some (image_seen i.image)
 pushed_found : (things : List Thing) (fb : ℕ) (old new : List FbImage) (p : IsPushed things fb old new) → IsImageIn things p.image
 pushed_found things fb old new p = ap (image_of things) p.id ∙ p.found
 
-pub pushed-images : (things : List Thing) (fb : ℕ) (old new : List FbImage) → IsPushed things fb old new → AreImagesIn things old
-    → AreImagesIn things new
+pub pushed-images : (things : List Thing) (fb : ℕ) (old new : List FbImage) → IsPushed things fb old new
+    → AreImagesIn things old → AreImagesIn things new
 pushed-images things fb old new p images =
     subst (AreImagesIn things) (sym p.pushed) (All-push (IsImageIn things) old p.image images (pushed_found things fb old new p))
 
@@ -63,8 +57,8 @@ pushed_seen things fb old new p images =
 abbrev IsSeen : List Thing → List FbImage → Layer → Type 0
 IsSeen things images l = seen_under images l.fb.id ≡ image_of things l.fb.id
 
-pushed_kept : (things : List Thing) (fb : ℕ) (old new : List FbImage) → IsPushed things fb old new → (l : Layer) → IsSeen things old l
-    → IsSeen things new l
+pushed_kept : (things : List Thing) (fb : ℕ) (old new : List FbImage) → IsPushed things fb old new → (l : Layer)
+    → IsSeen things old l → IsSeen things new l
 pushed_kept things fb old new p l before =
     ap (λ (is : List FbImage). seen_under is l.fb.id) p.pushed
     ∙ seen_kept things old p.image l.fb.id (pushed_found things fb old new p) before
@@ -77,13 +71,3 @@ pushed-more things layers i d old new within p images before =
     All-more (IsSeen things new) layers i d within
     (All-weaker (IsSeen things old) (IsSeen things new) (pushed_kept things (get_or layers i d).fb.id old new p) (take i layers) before)
     (pushed_seen things (get_or layers i d).fb.id old new p images)
-
--- The length of a frame
-
--- three bytes for each pixel
-pub length-frame : (words : ℕ → ℕ → ℕ → Option ℕ) (p : Shown) → length (frame_of words (On p)) ≡ 3 * (p.mode.hdisplay * p.mode.vdisplay)
-length-frame words p =
-    let w = p.mode.hdisplay in
-    let h = p.mode.vdisplay in
-    range_length (row_bytes words p) (w * 3) 0 h (λ y. range_length (λ (x : ℕ). pixel words p.gamma p.layers x y) 3 0 w (λ x. refl))
-    ∙ sym (mul_assoc h w 3) ∙ mul_comm (h * w) 3 ∙ ap (λ (k : ℕ). 3 * k) (mul_comm h w)
