@@ -55,10 +55,10 @@ lockable_in t kind.Conn i routed within = in_right (ids_of t kind.Crtc) (ids_of 
 lockable_in t kind.Enc i routed within = absurd (routed refl)
 
 -- the object of a kind with an index
-asked_object : (t : Topology) (w : World) (r : Request) (d : Duplicates) (k : Kind) (i : ℕ) → IsDevice t → k ≢ kind.Enc → (i < count_of t k)
+asked_object : {t : Topology} (w : World) (r : Request) (d : Duplicates) (k : Kind) (i : ℕ) → IsDevice t → k ≢ kind.Enc → (i < count_of t k)
     × (touches_of_kind k t w r (object_id k i) ≡ true) → is_kind_duplicated k d i ≡ false → IsAsked t w r d (object_id k i)
 unfolding touches
-asked_object t w r d k i device routed touched absent =
+asked_object {t} w r d k i device routed touched absent =
     let few : count_of t k ≤ 16 = few_of t k (few_objects t device) in
     let small : i < 16 = omega (arith, few, touched.0) in
     let is_kind : kind_of (object_id k i) ≡ k = kind_of-object k i (omega (arith, small)) in
@@ -73,24 +73,24 @@ asked_object t w r d k i device routed touched absent =
     }
 
 -- the object at a place of a set that is lacking
-asked_at : (t : Topology) (w : World) (r : Request) (d : Duplicates) (m : Mask) (p : ℕ) → IsDevice t → IsLacking t w r d m → p < 28
+asked_at : {t : Topology} {w : World} {r : Request} {d : Duplicates} {m : Mask} (p : ℕ) → IsDevice t → IsLacking t w r d m → p < 28
     → mask_has m p ≡ true → IsAsked t w r d (object_at_place p)
-asked_at t w r d m p device lacks place has =
+asked_at {t} {w} {r} {d} p device lacks place has =
     elim (cases_lt p 4) [
       | inl crtc ↦ (
           let o = missing lacks.group.crtcs d.crtcs p (ap (λ (x : Mask). has_bit x.crtcs p) (sym lacks.is) ∙ (rw (lt-ltb p 4 crtc) at has))
           in
-          rw (lt-ltb p 4 crtc) (asked_object t w r d kind.Crtc p device (λ e. cc) (lacks.touched.crtcs p o.0) (none_not_some _ o.1)))
+          rw (lt-ltb p 4 crtc) (asked_object w r d kind.Crtc p device (λ e. cc) (lacks.touched.crtcs p o.0) (none_not_some _ o.1)))
       | inr other ↦ elim (cases_lt p 20) [
         | inl plane ↦ (
             let o = missing lacks.group.planes d.planes (p - 4)
             (ap (λ (x : Mask). has_bit x.planes (p - 4)) (sym lacks.is) ∙ (rw (le-ltb p 4 other, lt-ltb p 20 plane) at has)) in
-            rw (le-ltb p 4 other, lt-ltb p 20 plane) (asked_object t w r d kind.Plane (p - 4) device (λ e. cc)
+            rw (le-ltb p 4 other, lt-ltb p 20 plane) (asked_object w r d kind.Plane (p - 4) device (λ e. cc)
             (lacks.touched.planes (p - 4) o.0) (none_not_some _ o.1)))
         | inr conn ↦ (
             let o = missing lacks.group.conns d.conns (p - 20)
             (ap (λ (x : Mask). has_bit x.conns (p - 20)) (sym lacks.is) ∙ (rw (le-ltb p 4 other, le-ltb p 20 conn) at has)) in
-            rw (le-ltb p 4 other, le-ltb p 20 conn) (asked_object t w r d kind.Conn (p - 20) device (λ e. cc)
+            rw (le-ltb p 4 other, le-ltb p 20 conn) (asked_object w r d kind.Conn (p - 20) device (λ e. cc)
             (lacks.touched.conns (p - 20) o.0) (none_not_some _ o.1)))
       ]
     ]
@@ -104,4 +104,4 @@ asked-touches t w r d id device least = go (first_lacking t w r d) refl least
     go None is e = absurd cc
     go (Some m) is e =
         let at : HasLeast m id = least-member m id e in
-        subst (IsAsked t w r d) (sym at.same) (asked_at t w r d m at.place device (first_lacking-is t w r d m is) at.within at.member)
+        subst (IsAsked t w r d) (sym at.same) (asked_at at.place device (first_lacking-is t w r d is) at.within at.member)

@@ -58,15 +58,16 @@ use Rattle.kms_check.proofs.ValuesAfter.{number_in, numbered, value-last_sets, a
 
 -- After the sets were applied
 
-pub applied : (t : Topology) (w : World) (r : Request) (resolved : Resolved) (d d' : Duplicates) → IsOfRequest t w r resolved d → AreFresh d
+pub applied : {t : Topology} {w : World} {r : Request} {resolved : Resolved} {d : Duplicates} (d' : Duplicates) → IsOfRequest t w r resolved
+    d → AreFresh d
     → SetsAll d resolved.sets d' → old_states d' ≡ old_states d → StandAt t w r d'
-applied t w r resolved d d' is fresh sets_all same = record {
-  at = request_at t w r resolved d is;
+applied {t} {w} {r} {resolved} {d} d' is fresh sets_all same = record {
+  at = request_at is;
   old = AgreesOld-same t w.things w.values d d' same is.old;
-  new = agrees-same t w.things (set_all w.values (number_in (after w r)) resolved.sets) (after w r) d'
+  new = agrees-same (after w r)
       (λ object prop. ap (λ ss. value (set_all w.values (number_in (after w r)) ss) object prop) is.asks.sets ∙ value-last_sets w r object
       prop)
-      (sets_all t w.things w.values (number_in (after w r)) (numbered t w r resolved d is) (fresh-agrees t w r resolved d is fresh));
+      (sets_all t w.things w.values (number_in (after w r)) (numbered is) (fresh-agrees is fresh));
 }
 
 there-same : {S : Type 0} (xs ys : List (Option (Both S))) (i : ℕ) → olds xs ≡ olds ys → is_some (state_at xs i) ≡ is_some (state_at ys i)
@@ -89,8 +90,8 @@ missing_in-same mask xs ys n same = same_masks _ _ n
     (λ i h. ap (λ b. has_bit mask i && b) (none-some (state_at xs i) ∙ ap not (there-same xs ys i same) ∙ sym (none-some (state_at ys i))))
 
 -- what is not_duplicated of a set does not change as sets are applied
-pub lacking-same : (d d' : Duplicates) (m : Mask) → HasRoom d → HasRoom d' → old_states d' ≡ old_states d → lacking d' m ≡ lacking d m
-lacking-same d d' m room room' same =
+pub lacking-same : {d d' : Duplicates} (m : Mask) → HasRoom d → HasRoom d' → old_states d' ≡ old_states d → lacking d' m ≡ lacking d m
+lacking-same {d} {d'} m room room' same =
     let crtcs : missing_in m.crtcs d'.crtcs (length d'.crtcs)
     ≡ missing_in m.crtcs d.crtcs (length d.crtcs) = missing_in-same m.crtcs d'.crtcs d.crtcs (length d'.crtcs) (ap (λ s. s.crtcs) same)
     ∙ ap (missing_in m.crtcs d.crtcs) (room'.crtcs ∙ sym room.crtcs) in
@@ -105,14 +106,15 @@ lacking-same d d' m room room' same =
 
 -- The CRTC of a touched plane is touched
 
-crtc-needed : (t : Topology) (w : World) (r : Request) (crtc : ℕ) → IsRequestAt t w r → needs_modeset t w.things w.values (after w r) crtc
+crtc-needed : {t : Topology} {w : World} {r : Request} (crtc : ℕ) → IsRequestAt t w r → needs_modeset t w.things w.values (after w r) crtc
     ≡ true → touches w r crtc ≡ true
-crtc-needed t w r crtc at need = true_from_ne_false (touches w r crtc)
+crtc-needed {t} {w} {r} crtc at need = true_from_ne_false (touches w r crtc)
     (λ untouched. both_ways _ (untouched-modeset t w r crtc at untouched) need)
 
-set_plane-names : (t : Topology) (w : World) (r : Request) (plane crtc : ℕ) → IsRequestAt t w r → items.IsIn plane (ids_of t kind.Plane)
+set_plane-names : {t : Topology} {w : World} {r : Request} (plane : ℕ) {crtc : ℕ} → IsRequestAt t w r → items.IsIn plane (ids_of t
+    kind.Plane)
     → sets r.assigns plane ≡ true → crtc_at (after w r) plane ≡ crtc → names w.values (after w r) r.assigns crtc ≡ true
-set_plane-names t w r plane crtc at is set on = by_assign (items.list_any-some (λ a. object_of a == plane) r.assigns set)
+set_plane-names {t} {w} {r} plane {crtc} at is set on = by_assign (items.list_any-some (λ a. object_of a == plane) r.assigns set)
   where
     by_assign : items.Passes (λ a. object_of a == plane) r.assigns → names w.values (after w r) r.assigns crtc ≡ true
     by_assign found =
@@ -127,10 +129,11 @@ set_plane-names t w r plane crtc at is set on = by_assign (items.list_any-some (
         items.list_any-has (is_named_by w.values (after w r) crtc) r.assigns found.item found.is_in
         (or_right (object_of found.item == crtc) _ routed)
 
-touched-crtc_of : (t : Topology) (w : World) (r : Request) (plane crtc : ℕ) → IsRequestAt t w r → items.IsIn plane (ids_of t kind.Plane)
+touched-crtc_of : {t : Topology} {w : World} {r : Request} (plane : ℕ) {crtc : ℕ} → IsRequestAt t w r → items.IsIn plane (ids_of t
+    kind.Plane)
     → crtc_at (after w r) plane ≡ crtc → touches_object t w r plane ≡ true → touches w r crtc ≡ true
-touched-crtc_of t w r plane crtc at is on touched = elim (cases_Bool (sets r.assigns plane)) [
-  | inl set ↦ or_right (sets r.assigns crtc) _ (set_plane-names t w r plane crtc at is set on)
+touched-crtc_of {t} {w} {r} plane {crtc} at is on touched = elim (cases_Bool (sets r.assigns plane)) [
+  | inl set ↦ or_right (sets r.assigns crtc) _ (set_plane-names plane at is set on)
   | inr unset ↦ by_crtc unset (items.list_any-some
       (λ c. needs_modeset t w.things w.values (after w r) c && moves_on w.values (after w r) c plane) (ids_of t kind.Crtc)
       (affected_of unset))
@@ -151,7 +154,7 @@ touched-crtc_of t w r plane crtc at is on touched = elim (cases_Bool (sets r.ass
           | inl old ↦ sym before ∙ eqb-true (crtc_at w.values plane) found.item old
           | inr new ↦ sym on ∙ eqb-true (crtc_at (after w r) plane) found.item new
         ] in
-        subst (λ c. touches w r c ≡ true) (sym same) (crtc-needed t w r found.item at both.0)
+        subst (λ c. touches w r c ≡ true) (sym same) (crtc-needed found.item at both.0)
 
 -- What is duplicated covers what the request touches
 
@@ -163,10 +166,10 @@ group-test : (t : Topology) (k : Kind) (test : ℕ → Bool) (i : ℕ) → i < c
     → test (object_id k i) ≡ true
 group-test t k test i within member = sym (has_bit-below (λ j. test (object_id k j)) (count_of t k) i within) ∙ member
 
-pub covers-touched : (t : Topology) (w : World) (r : Request) (d : Duplicates) → IsRequestAt t w r → HasRoom d → IsCovered d (set_group t r)
+pub covers-touched : {t : Topology} {w : World} {r : Request} {d : Duplicates} → IsRequestAt t w r → HasRoom d → IsCovered d (set_group t r)
     → IsCovered d (named_group t w r) → IsCovered d (affected_group t w r)
     → Covers t w r d (touched_by t w r)
-covers-touched t w r d at room set named affected =
+covers-touched {t} {w} {r} {d} at room set named affected =
     let few = few_objects t at.device in
     let crtc_there : (i : ℕ) → i < count_of t kind.Crtc → touches w r (object_id kind.Crtc i) ≡ true → is_some (state_at d.crtcs i)
     ≡ true = λ i within touched. elim (or_cases (sets r.assigns (object_id kind.Crtc i))
@@ -195,15 +198,15 @@ covers-touched t w r d at room set named affected =
                 (group-bit t kind.Conn (is_affected t w.things w.values (after w r)) i within is_affected_one)
           ];
       has_crtc_of = λ i j within member below on. crtc_there j below
-          (touched-crtc_of t w r (object_id kind.Plane i) (object_id kind.Crtc j) at (items.ids-has t kind.Plane i within) on
+          (touched-crtc_of (object_id kind.Plane i) at (items.ids-has t kind.Plane i within) on
           (group-test t kind.Plane (touches_object t w r) i within member));
     }
 
 -- a named CRTC is duplicated
-pub named-there : (t : Topology) (w : World) (r : Request) (d : Duplicates) → IsRequestAt t w r → HasRoom d
+pub named-there : {t : Topology} {w : World} {r : Request} {d : Duplicates} → IsRequestAt t w r → HasRoom d
     → IsCovered d (named_group t w r)
     → (i : ℕ) → i < t.crtcs → names w.values (after w r) r.assigns (object_id kind.Crtc i) ≡ true → is_some (state_at d.crtcs i) ≡ true
-named-there t w r d at room named i within is =
+named-there {t} {w} {r} at room named i within is =
     let few = few_objects t at.device in
     named.crtcs i (omega (arith, room.crtcs, few.crtcs)) (group-bit t kind.Crtc (names w.values (after w r) r.assigns) i within is)
 
@@ -250,10 +253,10 @@ no_crtc t assigns i beyond = items.list_any-none (λ c. is_asked (out_fence_labe
     let o : items.IsObject t kind.Crtc c = items.ids-in t kind.Crtc c is in
     omega (arith, o.within, o.same)))
 
-pub fenced-is : (t : Topology) (w : World) (r : Request) (resolved : Resolved) (d : Duplicates) → IsOfRequest t w r resolved d
+pub fenced-is : {t : Topology} {w : World} {r : Request} {resolved : Resolved} {d : Duplicates} → IsOfRequest t w r resolved d
     → crtcs_fenced resolved.out_fences ≡ fenced_set t r
 unfolding out_fences
-fenced-is t w r resolved d is =
+fenced-is {t} {r} is =
     let few = few_objects t is.device in
     ap crtcs_fenced is.asks.out_fences
     ∙ same_masks (λ i. list_any (is_of (object_id kind.Crtc i)) (filter_map (fence_of r.assigns) (ids_of t kind.Crtc)))
@@ -265,43 +268,43 @@ fenced-is t w r resolved d is =
 
 -- What the groups lack, as the steps find it
 
-set-lacking-asked : (t : Topology) (f : ℕ → Look) (r : Request) (resolved : Resolved) (d : Duplicates) (sets_read : List Set) (set : Mask)
-    (found : Option Mask) → IsDevice t → IsResolved t f r resolved → sets_read ≡ resolved.sets → set ≡ objects_set sets_read → found
+set-lacking-asked : {t : Topology} {f : ℕ → Look} {r : Request} {resolved : Resolved} (d : Duplicates) {sets_read : List Set} {set : Mask}
+    {found : Option Mask} → IsDevice t → IsResolved t f r resolved → sets_read ≡ resolved.sets → set ≡ objects_set sets_read → found
     ≡ lacking d set
     → lacking d (set_group t r) ≡ found
-set-lacking-asked t f r resolved d sets_read set found device asks read made lacks = ap (lacking d)
+set-lacking-asked {t} {f} {r} {resolved} d device asks read made lacks = ap (lacking d)
     (sym (objects_set-is t f r resolved device asks) ∙ ap objects_set (sym read) ∙ sym made) ∙ sym lacks
 
-pub set-lacking : (t : Topology) (w : World) (r : Request) (resolved : Resolved) (d : Duplicates) (sets_read : List Set) (set : Mask)
-    (found : Option Mask) → IsOfRequest t w r resolved d → sets_read ≡ resolved.sets → set ≡ objects_set sets_read → found ≡ lacking d set
+pub set-lacking : {t : Topology} {w : World} {r : Request} {resolved : Resolved} {d : Duplicates} {sets_read : List Set} {set : Mask}
+    {found : Option Mask} → IsOfRequest t w r resolved d → sets_read ≡ resolved.sets → set ≡ objects_set sets_read → found ≡ lacking d set
     → lacking d (set_group t r) ≡ found
-set-lacking t w r resolved d sets_read set found is = set-lacking-asked t (look_up w) r resolved d sets_read set found is.device is.asks
+set-lacking {t} {w} {r} {resolved} {d} {sets_read} {set} {found} is = set-lacking-asked d is.device is.asks
 
 -- the same of what is asked for somewhere
-pub asked-lacking : (t : Topology) (resolved : Resolved) (d : Duplicates) (sets_read : List Set) (set : Mask) (found : Option Mask)
+pub asked-lacking : {t : Topology} (resolved : Resolved) (d : Duplicates) {sets_read : List Set} {set : Mask} {found : Option Mask}
     → IsDevice t → (asked : IsAskedFor t resolved) → sets_read ≡ resolved.sets → set ≡ objects_set sets_read → found ≡ lacking d set
     → lacking d (set_group t asked.request) ≡ found
-asked-lacking t resolved d sets_read set found device asked = set-lacking-asked t asked.names asked.request resolved d sets_read set found
+asked-lacking {t} resolved d {sets_read} {set} {found} device asked = set-lacking-asked d
     device asked.asks
 
-pub first-set : (t : Topology) (w : World) (r : Request) (d : Duplicates) (locks : Mask) → lacking d (set_group t r) ≡ Some locks
+pub first-set : (t : Topology) (w : World) (r : Request) (d : Duplicates) {locks : Mask} → lacking d (set_group t r) ≡ Some locks
     → Some locks ≡ first_lacking t w r d
-first-set t w r d locks lacks = sym (ap (λ o. or_else o (or_else (lacking d (named_group t w r)) (lacking d (affected_group t w r)))) lacks)
+first-set t w r d lacks = sym (ap (λ o. or_else o (or_else (lacking d (named_group t w r)) (lacking d (affected_group t w r)))) lacks)
 
-pub first-named : (t : Topology) (w : World) (r : Request) (d : Duplicates) (locks : Mask) → lacking d (set_group t r) ≡ None
+pub first-named : (t : Topology) (w : World) (r : Request) (d : Duplicates) {locks : Mask} → lacking d (set_group t r) ≡ None
     → lacking d (named_group t w r) ≡ Some locks → Some locks ≡ first_lacking t w r d
-first-named t w r d locks none lacks = sym (ap (λ o. or_else o (or_else (lacking d (named_group t w r)) (lacking d (affected_group t w r))))
+first-named t w r d none lacks = sym (ap (λ o. or_else o (or_else (lacking d (named_group t w r)) (lacking d (affected_group t w r))))
     none ∙ ap (λ o. or_else o (lacking d (affected_group t w r))) lacks)
 
-pub first-affected : (t : Topology) (w : World) (r : Request) (d : Duplicates) (found : Option Mask) → lacking d (set_group t r) ≡ None
+pub first-affected : (t : Topology) (w : World) (r : Request) (d : Duplicates) {found : Option Mask} → lacking d (set_group t r) ≡ None
     → lacking d (named_group t w r) ≡ None → lacking d (affected_group t w r) ≡ found → found ≡ first_lacking t w r d
-first-affected t w r d found none none_named lacks = sym
+first-affected t w r d none none_named lacks = sym
     (ap (λ o. or_else o (or_else (lacking d (named_group t w r)) (lacking d (affected_group t w r)))) none ∙ ap
     (λ o. or_else o (lacking d (affected_group t w r))) none_named ∙ lacks)
 
 -- what is asked for and what is refused exclude one another
-pub asked-first : {A : Type 0} (locks : Mask) (first : Option Mask) (a b : Option A) → Some locks ≡ first → first ≡ None → a ≡ b
-asked-first locks first a b some none = absurd (none_is_some locks (some ∙ none))
+pub asked-first : {A : Type 0} {locks : Mask} {first : Option Mask} (a b : Option A) → Some locks ≡ first → first ≡ None → a ≡ b
+asked-first {locks} a b some none = absurd (none_is_some locks (some ∙ none))
   where
     none_is_some : (m : Mask) → Some m ≡ None → ⊥
     none_is_some m e = cc
@@ -313,16 +316,16 @@ pub record HasSets (t : Topology) (w : World) (r : Request) (resolved : Resolved
   pub room : HasRoom d
   pub none : lacking d (set_group t r) ≡ None
 
-pub named-known : (t : Topology) (w : World) (r : Request) (resolved : Resolved) (d : Duplicates) (named : ℕ) → HasSets t w r resolved d
+pub named-known : {t : Topology} {w : World} {r : Request} {resolved : Resolved} {d : Duplicates} (named : ℕ) → HasSets t w r resolved d
     → ((u : Topology) (v : World) (f : ℕ → Look) (q : Request) → naming.Covers u v f q resolved d → named ≡ named_by u v q) → named
     ≡ named_by t w r
-named-known t w r resolved d named has tells = tells t w (look_up w) r
-    (named-covers t w r resolved d has.is has.room (covered d (set_group t r) has.none))
+named-known {t} {w} {r} {resolved} {d} named has tells = tells t w (look_up w) r
+    (named-covers has.is has.room (covered d (set_group t r) has.none))
 
-pub named-lacking : (t : Topology) (w : World) (r : Request) (d : Duplicates) (named : ℕ) (crtcs : Mask) (found : Option Mask) → named
+pub named-lacking : (t : Topology) (w : World) (r : Request) (d : Duplicates) {named : ℕ} {crtcs : Mask} {found : Option Mask} → named
     ≡ named_by t w r → crtcs ≡ record { crtcs = named; planes = 0; conns = 0 } → found ≡ lacking d crtcs
     → lacking d (named_group t w r) ≡ found
-named-lacking t w r d named crtcs found known made lacks = ap (λ n. lacking d (record { crtcs = n; planes = 0; conns = 0 })) (sym known) ∙
+named-lacking t w r d {crtcs} known made lacks = ap (λ n. lacking d (record { crtcs = n; planes = 0; conns = 0 })) (sym known) ∙
     ap (lacking d) (sym made) ∙ sym lacks
 
 -- Once all that is named is duplicated too, and the sets were applied
@@ -335,43 +338,43 @@ pub record HasApplied (t : Topology) (w : World) (r : Request) (resolved : Resol
   pub stand : StandAt t w r d'
   pub same : old_states d' ≡ old_states d
 
-pub affected-lacking : (t : Topology) (w : World) (r : Request) (resolved : Resolved) (d d' : Duplicates) (named : ℕ) (affected : Mask)
-    (found : Option Mask) → HasApplied t w r resolved d d' named → affected ≡ affected_below d'.crtcs named 4 → found ≡ lacking d' affected
+pub affected-lacking : {t : Topology} {w : World} {r : Request} {resolved : Resolved} {d d' : Duplicates} {named : ℕ} {affected : Mask}
+    {found : Option Mask} → HasApplied t w r resolved d d' named → affected ≡ affected_below d'.crtcs named 4 → found ≡ lacking d' affected
     → lacking d (affected_group t w r) ≡ found
-affected-lacking t w r resolved d d' named affected found has made lacks =
+affected-lacking {t} {w} {r} {d} {d'} {affected} has made lacks =
     let covers_named : IsCovered d' (named_group t w r) = covered d' (named_group t w r)
-    (lacking-same d d' (named_group t w r) has.has.room has.room has.same ∙ has.none) in
+    (lacking-same (named_group t w r) has.has.room has.room has.same ∙ has.none) in
     let known : affected ≡ affected_group t w r = made ∙ ap (λ n. affected_below d'.crtcs n 4) has.named_is ∙ affected-is t w r d' has.stand
-    (named-there t w r d' has.stand.at has.room covers_named) in
-    sym (lacking-same d d' (affected_group t w r) has.has.room has.room has.same) ∙ ap (lacking d') (sym known) ∙ sym lacks
+    (named-there has.stand.at has.room covers_named) in
+    sym (lacking-same (affected_group t w r) has.has.room has.room has.same) ∙ ap (lacking d') (sym known) ∙ sym lacks
 
-pub affected-known : (t : Topology) (w : World) (r : Request) (resolved : Resolved) (d d' : Duplicates) (named : ℕ) (affected : Mask)
+pub affected-known : {t : Topology} {w : World} {r : Request} {resolved : Resolved} {d d' : Duplicates} {named : ℕ} {affected : Mask}
     → HasApplied t w r resolved d d' named → affected ≡ affected_below d'.crtcs named 4 → affected ≡ affected_group t w r
-affected-known t w r resolved d d' named affected has made =
+affected-known {t} {w} {r} {d} {d'} has made =
     let covers_named : IsCovered d' (named_group t w r) = covered d' (named_group t w r)
-    (lacking-same d d' (named_group t w r) has.has.room has.room has.same ∙ has.none) in
+    (lacking-same (named_group t w r) has.has.room has.room has.same ∙ has.none) in
     made ∙ ap (λ n. affected_below d'.crtcs n 4) has.named_is ∙ affected-is t w r d' has.stand
-    (named-there t w r d' has.stand.at has.room covers_named)
+    (named-there has.stand.at has.room covers_named)
 
 -- The states that are looked at cover what the request touches.
-pub all-covered : (t : Topology) (w : World) (r : Request) (resolved : Resolved) (d d' : Duplicates) (named : ℕ)
+pub all-covered : {t : Topology} {w : World} {r : Request} {resolved : Resolved} {d d' : Duplicates} {named : ℕ}
     → HasApplied t w r resolved d d' named → lacking d (affected_group t w r) ≡ None → Covers t w r d' (touched_by t w r)
-all-covered t w r resolved d d' named has none =
-    covers-touched t w r d' has.stand.at has.room
-    (covered d' (set_group t r) (lacking-same d d' (set_group t r) has.has.room has.room has.same ∙ has.has.none))
-    (covered d' (named_group t w r) (lacking-same d d' (named_group t w r) has.has.room has.room has.same ∙ has.none))
-    (covered d' (affected_group t w r) (lacking-same d d' (affected_group t w r) has.has.room has.room has.same ∙ none))
+all-covered {t} {w} {r} {d} {d'} has none =
+    covers-touched has.stand.at has.room
+    (covered d' (set_group t r) (lacking-same (set_group t r) has.has.room has.room has.same ∙ has.has.none))
+    (covered d' (named_group t w r) (lacking-same (named_group t w r) has.has.room has.room has.same ∙ has.none))
+    (covered d' (affected_group t w r) (lacking-same (affected_group t w r) has.has.room has.room has.same ∙ none))
 
 -- The first refusal that is found is that of the whole device.
-pub refusal-known : (t : Topology) (w : World) (r : Request) (resolved : Resolved) (d d' : Duplicates) (named fenced : ℕ) (touched : Mask)
-    (fences : List (ObjId × ℕ)) (found : Option ℕ) → HasApplied t w r resolved d d' named → lacking d (affected_group t w r) ≡ None
+pub refusal-known : {t : Topology} {w : World} {r : Request} {resolved : Resolved} {d d' : Duplicates} {named fenced : ℕ} {touched : Mask}
+    {fences : List (ObjId × ℕ)} {found : Option ℕ} → HasApplied t w r resolved d d' named → lacking d (affected_group t w r) ≡ None
     → touched ≡ touched_by t w r → fences ≡ resolved.out_fences → fenced ≡ crtcs_fenced fences → found
     ≡ late_of_states t d' touched resolved.flags named fenced
     → found ≡ late_refusal t w.things w.values (after w r) r
-refusal-known t w r resolved d d' named fenced touched fences found has none touched_is read fenced_made found_is =
-    let fenced_known : fenced ≡ fenced_set t r = fenced_made ∙ ap crtcs_fenced read ∙ fenced-is t w r resolved d has.has.is in
+refusal-known {t} {w} {r} {resolved} {d} {d'} {named} {fenced} has none touched_is read fenced_made found_is =
+    let fenced_known : fenced ≡ fenced_set t r = fenced_made ∙ ap crtcs_fenced read ∙ fenced-is has.has.is in
     found_is ∙ ap (λ m. late_of_states t d' m resolved.flags named fenced) touched_is ∙ ap
     (λ n. late_of_states t d' (touched_by t w r) n named fenced) has.has.is.asks.flags
     ∙ ap (λ n. late_of_states t d' (touched_by t w r) r.flags n fenced) has.named_is
     ∙ ap (late_of_states t d' (touched_by t w r) r.flags (named_by t w r)) fenced_known
-    ∙ late_of_states-is t w r d' (touched_by t w r) has.stand (all-covered t w r resolved d d' named has none)
+    ∙ late_of_states-is t w r d' (touched_by t w r) has.stand (all-covered has none)

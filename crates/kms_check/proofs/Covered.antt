@@ -40,11 +40,11 @@ touched_covered t w r d d' room same none =
     let first = or_else-none (lacking d (set_group t r)) _ none in
     let rest = or_else-none (lacking d (named_group t w r)) (lacking d (affected_group t w r)) first.second_none in
     let is_set : IsCovered d' (set_group t r) = covered d' (set_group t r)
-    (lacking-same d d' (set_group t r) room room' same ∙ first.first_none) in
+    (lacking-same (set_group t r) room room' same ∙ first.first_none) in
     let is_named : IsCovered d' (named_group t w r) = covered d' (named_group t w r)
-    (lacking-same d d' (named_group t w r) room room' same ∙ rest.first_none) in
+    (lacking-same (named_group t w r) room room' same ∙ rest.first_none) in
     let is_routed : IsCovered d' (affected_group t w r) = covered d' (affected_group t w r)
-    (lacking-same d d' (affected_group t w r) room room' same ∙ rest.second_none) in
+    (lacking-same (affected_group t w r) room room' same ∙ rest.second_none) in
     record {
       crtcs = λ i within member. in_either t kind.Crtc (sets r.assigns) (names w.values (after w r) r.assigns) i member
           (is_set.crtcs i within) (is_named.crtcs i within);

@@ -39,46 +39,46 @@ use Rattle.kms_check.proofs.Readiness.{HasRoom, IsCovered, is_duplicated-object,
 use Rattle.kms_check.specs.Moves.{AcceptedAs}
 
 -- an object of a kind that a request touches is duplicated, where what it touches is covered
-kind_covered : (t : Topology) (w : World) (r : Request) (d : Duplicates) (k : Kind) (i : ℕ) → IsDevice t → HasRoom d
+kind_covered : {t : Topology} (w : World) (r : Request) {d : Duplicates} (k : Kind) (i : ℕ) → IsDevice t → HasRoom d
     → IsCovered d (touched_by t w r) → i < count_of t k → touches_of_kind k t w r (object_id k i) ≡ true → is_kind_duplicated k d i ≡ true
-kind_covered t w r d kind.Crtc i device room covers within touched =
+kind_covered {t} w r kind.Crtc i device room covers within touched =
     let few = few_objects t device in
     covers.crtcs i (omega (arith, within, room.crtcs, few.crtcs))
     (has_bit-below (λ j. touches_crtc w.values (after w r) r.assigns (object_id kind.Crtc j)) (count_of t kind.Crtc) i within ∙ touched)
-kind_covered t w r d kind.Plane i device room covers within touched =
+kind_covered {t} w r kind.Plane i device room covers within touched =
     let few = few_objects t device in
     covers.planes i (omega (arith, within, room.planes, few.planes))
     (has_bit-below (λ j. touches_routed t w.things w.values (after w r) r.assigns (object_id kind.Plane j)) (count_of t kind.Plane) i
     within ∙ touched)
-kind_covered t w r d kind.Conn i device room covers within touched =
+kind_covered {t} w r kind.Conn i device room covers within touched =
     let few = few_objects t device in
     covers.conns i (omega (arith, within, room.conns, few.conns))
     (has_bit-below (λ j. touches_routed t w.things w.values (after w r) r.assigns (object_id kind.Conn j)) (count_of t kind.Conn) i
     within ∙ touched)
-kind_covered t w r d kind.Enc i device room covers within touched = absurd cc
+kind_covered w r kind.Enc i device room covers within touched = absurd cc
 
-object_covered : (t : Topology) (w : World) (r : Request) (d : Duplicates) (k : Kind) (object : ℕ) → IsDevice t → HasRoom d
+object_covered : {t : Topology} (w : World) (r : Request) {d : Duplicates} (k : Kind) (object : ℕ) → IsDevice t → HasRoom d
     → IsCovered d (touched_by t w r) → IsIn object (ids_of t k) → touches t w r object ≡ true → is_duplicated d object ≡ true
 unfolding touches
-object_covered t w r d k object device room covers is touched =
+object_covered {t} w r {d} k object device room covers is touched =
     let o : IsObject t k object = ids-in t k object is in
     let few : count_of t k ≤ 16 = few_of t k (few_objects t device) in
     let small : o.index < 16 = omega (arith, few, o.within) in
     let at : touches_of_kind k t w r (object_id k o.index) ≡ true =
     ap (λ j. touches_of_kind j t w r (object_id k o.index)) (sym (kind_of-object k o.index (omega (arith, small)))) ∙ ap
     (λ n. touches_of_kind (kind_of n) t w r n) (sym o.same) ∙ touched in
-    ap (is_duplicated d) o.same ∙ is_duplicated-object k d o.index small ∙ kind_covered t w r d k o.index device room covers o.within at
+    ap (is_duplicated d) o.same ∙ is_duplicated-object k d o.index small ∙ kind_covered w r k o.index device room covers o.within at
 
 -- where nothing is lacking, each object of the device that a request touches is duplicated
-pub all-duplicated : (t : Topology) (w : World) (r : Request) (d : Duplicates) → IsDevice t → HasRoom d → first_lacking t w r d ≡ None
+pub all-duplicated : {t : Topology} (w : World) (r : Request) {d : Duplicates} → IsDevice t → HasRoom d → first_lacking t w r d ≡ None
     → (object : ℕ) → IsIn object (lockable t) → touches t w r object ≡ true → is_duplicated d object ≡ true
-all-duplicated t w r d device room none object is touched =
+all-duplicated {t} w r {d} device room none object is touched =
     let covers : IsCovered d (touched_by t w r) = touched_covered t w r d d room refl none in
     elim (in_either (ids_of t kind.Crtc) (ids_of t kind.Plane ++ ids_of t kind.Conn) object is) [
-      | inl crtc ↦ object_covered t w r d kind.Crtc object device room covers crtc touched
+      | inl crtc ↦ object_covered w r kind.Crtc object device room covers crtc touched
       | inr other ↦ elim (in_either (ids_of t kind.Plane) (ids_of t kind.Conn) object other) [
-        | inl plane ↦ object_covered t w r d kind.Plane object device room covers plane touched
-        | inr conn ↦ object_covered t w r d kind.Conn object device room covers conn touched
+        | inl plane ↦ object_covered w r kind.Plane object device room covers plane touched
+        | inr conn ↦ object_covered w r kind.Conn object device room covers conn touched
       ]
     ]
 

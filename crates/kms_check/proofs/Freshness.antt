@@ -1,5 +1,5 @@
 -- Duplicates to which present states are added: each new state stays the old one.
-use Rattle.std.proofs.Common.{◌≡◌, ℕ, zero, suc, ◌-◌, ◌<◌, List, length, set, replicate, Some, None, slice_get, inl, inr, arith, refl, sym}
+use Rattle.std.proofs.Common.{◌≡◌, ℕ, zero, suc, ◌-◌, ◌<◌, List, length, set, replicate, Some, None, slice_get, inl, inr, arith, sym}
 use Rattle.std.proofs.Common.{ap, ◌∙◌}
 use Rattle.std.specs.Prelude.{Option}
 use Rattle.std.proofs.Math.ListN.{length-set}
@@ -79,6 +79,3 @@ room-duplicated d id (state.Conn s) room = record {
   conns = length-set d.conns
       (id - first_id Conn) (Some (alike s)) ∙ room.conns;
 }
-
-pub room-none : HasRoom none_duplicated
-room-none = record { crtcs = refl; planes = refl; conns = refl }

@@ -141,18 +141,18 @@ pub record IsLacking (t : Topology) (w : World) (r : Request) (d : Duplicates) (
   pub is : m ≡ not_duplicated d group
   pub has_some : is_empty (not_duplicated d group) ≡ false
 
-of_group : (t : Topology) (w : World) (r : Request) (d : Duplicates) (g m : Mask) → AreTouched t w r g → IsLackingOf d g m
+of_group : {t : Topology} {w : World} {r : Request} {d : Duplicates} {g m : Mask} → AreTouched t w r g → IsLackingOf d g m
     → IsLacking t w r d m
-of_group t w r d g m touched lacks = record { group = g; touched = touched; is = lacks.is; has_some = lacks.has_some }
+of_group {g} touched lacks = record { group = g; touched = touched; is = lacks.is; has_some = lacks.has_some }
 
-pub first_lacking-is : (t : Topology) (w : World) (r : Request) (d : Duplicates) (m : Mask) → first_lacking t w r d ≡ Some m
+pub first_lacking-is : (t : Topology) (w : World) (r : Request) (d : Duplicates) {m : Mask} → first_lacking t w r d ≡ Some m
     → IsLacking t w r d m
-first_lacking-is t w r d m first =
+first_lacking-is t w r d {m} first =
     elim (or_else-some (lacking d (set_group t r)) _ m first) [
-      | inl is ↦ of_group t w r d (set_group t r) m (set_touched t w r) (lacking-is d (set_group t r) m is)
+      | inl is ↦ of_group (set_touched t w r) (lacking-is d (set_group t r) m is)
       | inr rest ↦ elim (or_else-some (lacking d (named_group t w r)) (lacking d (affected_group t w r)) m rest) [
-        | inl is ↦ of_group t w r d (named_group t w r) m (named_touched t w r) (lacking-is d (named_group t w r) m is)
-        | inr is ↦ of_group t w r d (affected_group t w r) m (affected_touched t w r) (lacking-is d (affected_group t w r) m is)
+        | inl is ↦ of_group (named_touched t w r) (lacking-is d (named_group t w r) m is)
+        | inr is ↦ of_group (affected_touched t w r) (lacking-is d (affected_group t w r) m is)
       ]
     ]
 
@@ -209,8 +209,8 @@ empty-set d g room none =
     and_from (m.crtcs == 0) _ (eq-eqb m.crtcs 0 crtcs) (and_from (m.planes == 0) _ (eq-eqb m.planes 0 planes) (eq-eqb m.conns 0 conns))
 
 -- what is asked for is never an empty set
-pub asks-some : {A : Type 0} (t : Topology) (w : World) (r : Request) (d : Duplicates) (m : Mask) → HasRoom d → first_lacking t w r d
+pub asks-some : {A : Type 0} (t : Topology) (w : World) (r : Request) {d : Duplicates} {m : Mask} → HasRoom d → first_lacking t w r d
     ≡ Some m → least_of m ≡ None → A
-asks-some t w r d m room first none =
-    let lacks : IsLacking t w r d m = first_lacking-is t w r d m first in
+asks-some t w r {d} {m} room first none =
+    let lacks : IsLacking t w r d m = first_lacking-is t w r d first in
     absurd (both_ways _ lacks.has_some (empty-set d lacks.group room (ap least_of (sym lacks.is) ∙ none)))

@@ -176,9 +176,9 @@ ready-in_range m before now after sets k d law within ready is held = set-in_ran
 -- What a check looks at
 
 -- fresh states of a sound world are in range
-pub fresh-in_range : (t : Topology) (w : World) (d : Duplicates) → IsSound t w → AgreesOld t w.things w.values d → AreFresh d
+pub fresh-in_range : {t : Topology} {w : World} {d : Duplicates} → IsSound t w → AgreesOld t w.things w.values d → AreFresh d
     → HasPlanesInRange (count_of t Plane) d
-fresh-in_range t w d sound old fresh = λ index both within at.
+fresh-in_range {t} {w} sound old fresh = λ index both within at.
     subst IsPlaneInRange (sym (fresh.planes index both at ∙ old.planes index both at)) (sound-plane_in_range t w index sound within)
 
 -- planes that are looked at are in range where all are

@@ -115,20 +115,20 @@ group_has : (t : Topology) (r : Request) (k : Kind) (i : ℕ) → i < count_of t
 group_has t r k i within set = has_bit-below (λ j. sets r.assigns (object_id k j)) (count_of t k) i within ∙ set
 
 -- an object of a device that is set is duplicated, where the objects that are set are covered
-pub set_duplicated : (t : Topology) (r : Request) (d : Duplicates) (k : Kind) (i : ℕ) → IsCovered d (set_group t r) → HasRoom d
+pub set_duplicated : (t : Topology) (r : Request) {d : Duplicates} (k : Kind) (i : ℕ) → IsCovered d (set_group t r) → HasRoom d
     → IsTrue (keeps_limits t) → i < count_of t k → k ≢ kind.Enc → sets r.assigns (object_id k i) ≡ true → is_kind_duplicated k d i ≡ true
-set_duplicated t r d kind.Crtc i covers room limits within routed set = let few = has_few t limits
+set_duplicated t r kind.Crtc i covers room limits within routed set = let few = has_few t limits
     in covers.crtcs i (omega (arith, room.crtcs, few.crtcs)) (group_has t r kind.Crtc i within set)
-set_duplicated t r d kind.Plane i covers room limits within routed set = let few = has_few t limits
+set_duplicated t r kind.Plane i covers room limits within routed set = let few = has_few t limits
     in covers.planes i (omega (arith, room.planes, few.planes)) (group_has t r kind.Plane i within set)
-set_duplicated t r d kind.Conn i covers room limits within routed set = let few = has_few t limits
+set_duplicated t r kind.Conn i covers room limits within routed set = let few = has_few t limits
     in covers.conns i (omega (arith, room.conns, few.conns)) (group_has t r kind.Conn i within set)
-set_duplicated t r d kind.Enc i covers room limits within routed set = absurd (routed refl)
+set_duplicated t r kind.Enc i covers room limits within routed set = absurd (routed refl)
 
 -- Each set is ready
 
-limits_of : (t : Topology) → IsDevice t → IsTrue (keeps_limits t)
-limits_of t device = (and_parts (keeps_limits t) _ device.legal).0
+limits_of : {t : Topology} → IsDevice t → IsTrue (keeps_limits t)
+limits_of {t} device = (and_parts (keeps_limits t) _ device.legal).0
 
 not_encoder : (k : Kind) (i : ℕ) → HasPlace k i → k ≢ kind.Enc
 not_encoder kind.Crtc i placed = λ e. cc
@@ -146,14 +146,14 @@ pub record IsSetObject (t : Topology) (d : Duplicates) (s : Set) : Type 0 where
   pub routed : of_kind ≢ kind.Enc
   pub duplicated : is_kind_duplicated of_kind d index ≡ true
 
-pub set_object : (t : Topology) (f : ℕ → Look) (r : Request) (resolved : Resolved) (d : Duplicates) (s : Set) → IsDevice t
+pub set_object : {t : Topology} {f : ℕ → Look} {r : Request} {resolved : Resolved} {d : Duplicates} (s : Set) → IsDevice t
     → IsResolved t f r resolved → HasRoom d → IsCovered d (set_group t r) → IsIn s resolved.sets → IsSetObject t d s
-set_object t f r resolved d s device asks room covers member =
+set_object {t} {f} {r} {d} s device asks room covers member =
     let from : IsFromAssign t f r s = from_assign t f r s asks.accepted (subst (IsIn s) asks.sets member) in
     let a = from.assign in
     let within : a.index < count_of t a.kind = ltb-true a.index (count_of t a.kind) from.allowed.exists in
     let small : count_of t a.kind ≤ 16 = few_of t a.kind (few_objects t device) in
-    let placed = allowed_settable t f a (limits_of t device) from.allowed in
+    let placed = allowed_settable t f a (limits_of device) from.allowed in
     let routed = not_encoder a.kind a.index placed.place in
     let set : sets r.assigns (object_id a.kind a.index)
     ≡ true = items.list_any-has (λ b. object_of b == object_id a.kind a.index) r.assigns a from.is_in
@@ -165,13 +165,13 @@ set_object t f r resolved d s device asks room covers member =
       within = within;
       few = omega arith;
       routed = routed;
-      duplicated = set_duplicated t r d a.kind a.index covers room (limits_of t device) within routed set;
+      duplicated = set_duplicated t r a.kind a.index covers room (limits_of device) within routed set;
     }
 
-pub ready : (t : Topology) (f : ℕ → Look) (r : Request) (resolved : Resolved) (d : Duplicates) → IsDevice t → IsResolved t f r resolved
+pub ready : {t : Topology} {f : ℕ → Look} {r : Request} {resolved : Resolved} {d : Duplicates} → IsDevice t → IsResolved t f r resolved
     → HasRoom d → IsCovered d (set_group t r) → All (IsApplicable d) resolved.sets
-ready t f r resolved d device asks room covers = all_in-from (IsApplicable d) resolved.sets (λ s member.
-    let o : IsSetObject t d s = set_object t f r resolved d s device asks room covers member in
+ready {t} {f} {r} {resolved} {d} device asks room covers = all_in-from (IsApplicable d) resolved.sets (λ s member.
+    let o : IsSetObject t d s = set_object s device asks room covers member in
     let from : IsFromAssign t f r s = from_assign t f r s asks.accepted (subst (IsIn s) asks.sets member) in
     let a = from.assign in
     let within : a.index < count_of t a.kind = ltb-true a.index (count_of t a.kind) from.allowed.exists in
@@ -205,15 +205,15 @@ few_conns t k i device within same =
     let below : i < count_of t kind.Conn = subst (λ j. i < count_of t j) same within in
     omega (arith, few.conns)
 
-pub named-covers : (t : Topology) (w : World) (r : Request) (resolved : Resolved) (d : Duplicates) → IsOfRequest t w r resolved d
+pub named-covers : {t : Topology} {w : World} {r : Request} {resolved : Resolved} {d : Duplicates} → IsOfRequest t w r resolved d
     → HasRoom d → IsCovered d (set_group t r) → naming.Covers t w (look_up w) r resolved d
-named-covers t w r resolved d is room covers = record {
-  limits = limits_of t is.device;
+named-covers {t} {w} {r} {resolved} {d} is room covers = record {
+  limits = limits_of is.device;
   sound = is.sound;
   asks = is.asks;
   old = is.old;
   duplicated = all_in-from (λ s. IsTrue (naming.is_routed_duplicated d s.object.0)) resolved.sets (λ s member.
-      let o : IsSetObject t d s = set_object t (look_up w) r resolved d s is.device is.asks room covers member in
+      let o : IsSetObject t d s = set_object s is.device is.asks room covers member in
       ap (naming.is_routed_duplicated d) o.same ∙ naming-object d o.of_kind o.index o.few (few_conns t o.of_kind o.index is.device o.within)
       o.duplicated);
 }

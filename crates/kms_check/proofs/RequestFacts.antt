@@ -19,17 +19,17 @@ use Rattle.kms_model.specs.Request.Deciding.{AreFresh, AreFreshIn, IsOfRequest}
 use Rattle.kms_request.proofs.SetGroups.{allowed-each}
 
 -- the request, in the world
-pub request_at : (t : Topology) (w : World) (r : Request) (resolved : Resolved) (d : Duplicates) → IsOfRequest t w r resolved d
+pub request_at : {t : Topology} {w : World} {r : Request} {resolved : Resolved} {d : Duplicates} → IsOfRequest t w r resolved d
     → IsRequestAt t w r
-request_at t w r resolved d is = record { device = is.device; sound = is.sound; early = is.asks.accepted }
+request_at is = record { device = is.device; sound = is.sound; early = is.asks.accepted }
 
 -- fresh states agree with the values before
 pub fresh_new : {S : Type 0} (f : ℕ → S) (states : List (Option (Both S))) → AreFreshIn states → AreOld f states → AreNew f states
 fresh_new f states fresh old = λ index both at. fresh index both at ∙ old index both at
 
-pub fresh-agrees : (t : Topology) (w : World) (r : Request) (resolved : Resolved) (d : Duplicates) → IsOfRequest t w r resolved d
+pub fresh-agrees : {t : Topology} {w : World} {r : Request} {resolved : Resolved} {d : Duplicates} → IsOfRequest t w r resolved d
     → AreFresh d → AgreesNew t w.things w.values d
-fresh-agrees t w r resolved d is fresh = record {
+fresh-agrees {d} is fresh = record {
   crtcs = fresh_new _ d.crtcs fresh.crtcs is.old.crtcs;
   planes = fresh_new _ d.planes fresh.planes is.old.planes;
   conns = fresh_new _ d.conns fresh.conns is.old.conns;

@@ -100,9 +100,11 @@ value-unkept_set values number (s ∷ sets) object prop loses = value-unkept_set
       | inl keeps ↦ (let apart : targets object prop s
           ≡ false = and_right (s.object.0 == object) (s.prop == prop)
           (Rattle.std.proofs.lemmas.Bool.ne_eqb s.prop prop (λ same. both_ways _ loses (ap is_kept (sym same) ∙ keeps))) in
-          ap (λ vs. value vs object prop) (cond-true (is_kept s.prop) (put values s.object.0 s.prop (number s)) values keeps) ∙ value-put values
+          ap (λ vs. value vs object prop) (cond-true (is_kept s.prop) (put values s.object.0 s.prop (number s)) values keeps) ∙ value-put
+          values
           s.object.0 s.prop (number s) object prop ∙ cond-false (targets object prop s) (number s) (value values object prop) apart)
-      | inr not_kept ↦ ap (λ vs. value vs object prop) (cond-false (is_kept s.prop) (put values s.object.0 s.prop (number s)) values not_kept)
+      | inr not_kept ↦ ap (λ vs. value vs object prop) (cond-false (is_kept s.prop) (put values s.object.0 s.prop (number s)) values
+          not_kept)
     ]
 
 value-unkept_apply : (things : List Thing) (values : List Setting) (assigns : List Assign) (object prop : ℕ) → is_kept prop ≡ false
@@ -174,9 +176,9 @@ value-last_sets w r object prop = elim (cases_Bool (is_kept prop)) [
 ]
 
 -- states agree with values that are the same
-pub agrees-same : (t : Topology) (things : List Thing) (xs ys : List Setting) (d : Duplicates)
+pub agrees-same : {t : Topology} {things : List Thing} {xs : List Setting} (ys : List Setting) {d : Duplicates}
     → ((object prop : ℕ) → value xs object prop ≡ value ys object prop) → AgreesNew t things xs d → AgreesNew t things ys d
-agrees-same t things xs ys d same agrees =
+agrees-same {t} {things} {xs} ys same agrees =
     let both : value xs ≡ value ys = λ i object prop. same object prop i in
     record {
       crtcs = λ index b at. agrees.crtcs index b at ∙ ap
@@ -221,10 +223,10 @@ has_object t k i id device same within few = record {
         ap (λ j. exists t j (object_id k i - first_id j)) (kind_of-object k i (omega arith)) ∙ ap (exists t k) index ∙ lt-ltb i
         (count_of t k) within
 
-pub numbered : (t : Topology) (w : World) (r : Request) (resolved : Resolved) (d : Duplicates) → IsOfRequest t w r resolved d
+pub numbered : {t : Topology} {w : World} {r : Request} {resolved : Resolved} {d : Duplicates} → IsOfRequest t w r resolved d
     → All (IsNumberedBy t w.things (number_in (after w r))) resolved.sets
-numbered t w r resolved d is = all_in-from (IsNumberedBy t w.things (number_in (after w r))) resolved.sets (λ s member.
-    let at = request_at t w r resolved d is in
+numbered {t} {w} {r} {resolved} {d} is = all_in-from (IsNumberedBy t w.things (number_in (after w r))) resolved.sets (λ s member.
+    let at = request_at is in
     let from : IsFromAssign t (look_up w) r s = from_assign t (look_up w) r s is.asks.accepted (subst (IsIn s) is.asks.sets member) in
     let a = from.assign in
     let within : a.index < count_of t a.kind = Rattle.std.proofs.lemmas.Bool.ltb-true a.index (count_of t a.kind) from.allowed.exists in

@@ -144,7 +144,8 @@ module _ (r : Run) (c : RequestContext) (takes : HasTaken r c) (checked : Checke
   where
     held_of : (k : Kind) (i : ℕ) → i < 16 → is_kind_duplicated k checked.states i ≡ true → holds (machine r) c.client (object_id k i) ≡ true
     held_of k i few there =
-        takes.held (object_id k i) (sym (same_duplicated c.states checked.states (object_id k i) kept) ∙ is_duplicated-object k checked.states
+        takes.held (object_id k i) (sym (same_duplicated c.states checked.states (object_id k i) kept) ∙ is_duplicated-object k
+        checked.states
         i few ∙ there)
 
     pub held_all : HasStates checked → HoldsAll (machine r) c.client checked.touched

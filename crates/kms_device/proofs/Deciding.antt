@@ -34,13 +34,14 @@ use Rattle.kms_model.specs.Request.Sets.{look_in}
 use Rattle.kms_model.specs.Request.Touched.{touches}
 use Rattle.kms_model.specs.Request.Verdict.{late_in}
 use Rattle.kms_model.specs.Script.WellFormed.{IsWellFormed}
+use Rattle.kms_model.proofs.Facts.{value-is}
 use Rattle.kms_model.proofs.KindsOfIds.{kind_of-object}
 use Rattle.kms_model.proofs.TouchedLemmas.{few_objects, few_of}
 use Rattle.kms_laws.proofs.Modes.{plain-from}
 use Rattle.kms_laws.proofs.NeverStuck.{history_along}
 use Rattle.kms_laws.proofs.OldLookUps.{ask_within_reach}
 use Rattle.kms_laws.proofs.Sizes.{command-there}
-use Rattle.kms_laws.proofs.Steps.{IsPlainScript, request-is, value-is}
+use Rattle.kms_laws.proofs.Steps.{IsPlainScript, request-is}
 use Rattle.kms_track.specs.Places.{object_at_place}
 use Rattle.kms_core.specs.Decisions.{IsAccepted, IsDeciding, IsRefusedLate, MayRefuse, MayTest, taker, world}
 use Rattle.kms_core.specs.Locks.{IsTaking, MayLock}

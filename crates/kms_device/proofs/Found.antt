@@ -18,6 +18,8 @@ use Rattle.kms_core.specs.Run.{Run, machine}
 use Rattle.kms_wwlock.specs.Standing.{ticket_in}
 use Rattle.kms_device.specs.Asking.{ContextBackedOff, ContextMustBackOff}
 use Rattle.kms_device.specs.Turns.{DevicePass, MayBeFound, run_seen}
+use Rattle.kms_model.specs.Device.Serial.{command_of}
+use Rattle.kms_model.proofs.Guards.{idle_from, idle_guards}
 use Rattle.kms_device.proofs.Runs.{legal-behind, open-at, run-append, stays}
 use Rattle.kms_device.proofs.Staying.{same_place}
 
@@ -25,8 +27,13 @@ use Rattle.kms_device.proofs.Staying.{same_place}
 idle-same : (s : Script) (m m2 : Machine) (client : ℕ) (test : Command → Bool) → place_at m2 client ≡ place_at m client
     → idle_at s m client test ≡ true → idle_at s m2 client test ≡ true
 idle-same s m m2 client test e h =
-    let both = and_parts (is_idle (doing_at m client)) _ h in
-    and_from (is_idle (doing_at m2 client)) _ (ap (λ (p : Place). is_idle p.doing) e ∙ both.0) (rw e both.1)
+    let g = idle_guards s m client test h in
+    idle_from s m2 client test (record {
+      idle = ap (λ (p : Place). is_idle p.doing) e ∙ g.idle;
+      command = g.command;
+      stands = ap (λ (p : Place). command_of s (record { client = client; command = p.command })) e ∙ g.stands;
+      passes = g.passes;
+    })
 
 module _ (script : Script) (pass : DevicePass) (found : Run) (f : MayBeFound script pass found) where
   pub history : is_history script found.steps ≡ true

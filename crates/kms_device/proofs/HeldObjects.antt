@@ -8,13 +8,13 @@ use Rattle.kms_model.specs.Device.Objects.{count_of, exists, first_id, ids_of, i
 use Rattle.kms_model.specs.Machine.Commits.{lockable}
 use Rattle.kms_model.specs.Machine.State.{holder_at, holds}
 use Rattle.kms_model.specs.Machine.Steps.{is_lockable}
+use Rattle.kms_model.proofs.Facts.{value-is}
 use Rattle.kms_model.proofs.Items.{IsIn, ids-in}
 use Rattle.kms_model.proofs.KindsOfIds.{kind_of-object}
 use Rattle.kms_model.proofs.TouchedLemmas.{HasFewObjects, few_objects, few_of}
 use Rattle.kms_laws.proofs.Basics.{in_either}
 use Rattle.kms_laws.proofs.Modes.{plain-from}
 use Rattle.kms_laws.proofs.NeverStuck.{history_facts}
-use Rattle.kms_laws.proofs.Steps.{value-is}
 use Rattle.kms_core.specs.Run.{Run, machine}
 use Rattle.kms_device.specs.Turns.{IsOpen}
 

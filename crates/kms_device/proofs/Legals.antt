@@ -1,18 +1,18 @@
 -- What legality asks for and tells, of a history that was not ended.
-use Rattle.std.proofs.Common.{◌≡◌, ℕ, ◌<◌, true, ◌&&◌, ap, arith}
+use Rattle.std.proofs.Common.{◌≡◌, ℕ, ◌<◌, true, ap, arith}
 use Rattle.std.specs.Prelude.{is_some, not}
-use Rattle.std.proofs.lemmas.Bool.{and_from, and_parts, ltb-true, not-true, or_left}
+use Rattle.std.proofs.lemmas.Bool.{and_from, and_parts, ltb-true, or_left}
 use Rattle.kms_model.specs.declared.objects.Kind.TheVariants.{Crtc}
 use Rattle.kms_model.specs.declared.replies.Step.TheVariants as step
 use Rattle.kms_model.specs.Device.Objects.{exists, object_id}
-use Rattle.kms_model.specs.Machine.Commits.{is_all_latched, is_cleaned, is_hw_done}
+use Rattle.kms_model.specs.Machine.Commits.{is_hw_done}
 use Rattle.kms_model.specs.Machine.Histories.{is_history, legal}
 use Rattle.kms_model.specs.Machine.State.{go_at}
 use Rattle.kms_model.specs.Machine.Steps.{may}
 use Rattle.kms_model.specs.Script.WellFormed.{IsWellFormed}
+use Rattle.kms_model.proofs.Guards.{IsCleaning, legal-going, legal_guards}
 use Rattle.kms_model.proofs.TouchedLemmas.{few_objects}
 use Rattle.kms_laws.proofs.Modes.{plain-from}
-use Rattle.kms_laws.proofs.Stalled.{legal-going}
 use Rattle.kms_laws.proofs.Steps.{history_kept}
 use Rattle.kms_core.specs.Latching.{MayBlank, goes_at}
 use Rattle.kms_core.specs.Run.{Run, machine}
@@ -38,29 +38,15 @@ pub blank-goes : (r : Run) (crtc : ℕ) → blanks_at r crtc ≡ true → goes_a
 blank-goes r crtc h = (and_parts (exists r.script.topology Crtc crtc) _ h).1
 
 module _ (r : Run) (k : ℕ) (legal_step : is_legal r (step.Cleanup k) ≡ true) where
-  parts : (not (machine r).stalled && (is_hw_done (machine r).device k
-      && (is_all_latched r.script.topology (machine r).device (machine r).records.latches k && not (is_cleaned (machine r).device k))))
-      ≡ true
-  unfolding legal may
-  parts = legal_step
-
-  done : (is_hw_done (machine r).device k && (is_all_latched r.script.topology (machine r).device (machine r).records.latches k
-      && not (is_cleaned (machine r).device k))) ≡ true
-  done = (and_parts (not (machine r).stalled) _ parts).1
-
-  latched : (is_all_latched r.script.topology (machine r).device (machine r).records.latches k && not (is_cleaned (machine r).device k))
-      ≡ true
-  latched = (and_parts (is_hw_done (machine r).device k) _ done).1
+  guards : IsCleaning r.script.topology (machine r) k
+  guards = legal_guards r.script (machine r) (step.Cleanup k) legal_step
 
   pub may_clean : IsWellFormed r.script → is_history r.script r.steps ≡ true → MayCleanUp r k
   may_clean formed history = record {
-    claimed = ((history_kept r.script r.steps (plain-from r.script formed) history).tail.marks.done k
-        (and_parts (is_hw_done (machine r).device k) _ done).0).0;
-    kept = not-true (is_cleaned (machine r).device k)
-        (and_parts (is_all_latched r.script.topology (machine r).device (machine r).records.latches k) _ latched).1;
+    claimed = ((history_kept r.script r.steps (plain-from r.script formed) history).tail.marks.done k guards.done).0;
+    kept = guards.kept;
     going = legal-going r.script (machine r) (step.Cleanup k) legal_step;
   }
 
   pub clean-over : is_commit_over r k ≡ true
-  clean-over = and_from (is_hw_done (machine r).device k) _ (and_parts (is_hw_done (machine r).device k) _ done).0
-      (and_parts (is_all_latched r.script.topology (machine r).device (machine r).records.latches k) _ latched).0
+  clean-over = and_from (is_hw_done (machine r).device k) _ guards.done guards.latched

@@ -1,5 +1,5 @@
 -- Where the client of a pass stands after a turn, by where it stood.
-use Rattle.std.proofs.Common.{◌≡◌, ℕ, [], ◌∷◌, true, false, Some, None, Result, Ok, Err, refl, sym, ap, ◌∙◌, subst}
+use Rattle.std.proofs.Common.{◌≡◌, ℕ, [], ◌∷◌, true, false, None, Result, Ok, Err, refl, sym, ap, ◌∙◌, subst}
 use Rattle.std.specs.Prelude.{IfOk, IfSome, IsErr, is_some}
 use Rattle.std.proofs.lemmas.Bool.{false≢true}
 use Rattle.kms_model.specs.declared.objects.ObjId.{ObjId}
@@ -12,7 +12,7 @@ use Rattle.kms_model.specs.declared.runs.Place.{Place}
 use Rattle.kms_model.specs.declared.scripts.Request.{Request}
 use Rattle.kms_model.specs.declared.scripts.Script.{Script}
 use Rattle.kms_model.specs.Machine.Effects.{backed_off, next}
-use Rattle.kms_model.specs.Machine.State.{Machine, doing_at, place_at}
+use Rattle.kms_model.specs.Machine.State.{doing_at, place_at}
 use Rattle.kms_core.specs.declared.stores.looking.Decided.{Decided}
 use Rattle.kms_core.specs.declared.stores.looking.Decided.TheVariants as decided
 use Rattle.kms_core.specs.Decisions.{steps_of}
@@ -81,7 +81,8 @@ module _ (script : Script) (says : Run → Type 0) (p q : DevicePass) (place : P
     }
 
     -- A context begins.
-    pub began_at : (ticket : Ticket) (t : DeviceTurn script says (step.Begin p.rank ∷ []) p q) → ticket.0 ≡ (machine t.found).contexts.tickets
+    pub began_at : (ticket : Ticket) (t : DeviceTurn script says (step.Begin p.rank ∷ []) p q) → ticket.0
+        ≡ (machine t.found).contexts.tickets
         → StandsAt (run_seen script q) p.rank (record place { doing = doing.Taking ticket })
     unfolding next
     began_at ticket t said =

@@ -34,11 +34,12 @@ use Rattle.kms_model.specs.Request.Reach.{reaches, reaching}
 use Rattle.kms_model.specs.Request.Refusals.{assign_refusal, assigns_refusal, early_refusal, own_refusal}
 use Rattle.kms_model.specs.Request.SameLooks.{TellsLabel}
 use Rattle.kms_model.specs.Request.Touched.{is_affected, sets, touches, touches_of_kind}
+use Rattle.kms_model.proofs.Facts.{none-is}
 use Rattle.kms_model.proofs.CrtcLemmas.{all_in}
 use Rattle.kms_model.proofs.Items.{IsIn, filter-same, ids-has, list_any-has}
 use Rattle.kms_model.proofs.SameLooks.{early-same}
 use Rattle.kms_laws.proofs.OldLookUps.{StayIn, stay_kept}
-use Rattle.kms_laws.proofs.Steps.{Holds, history_kept, step_kept, none-is}
+use Rattle.kms_laws.proofs.Steps.{Holds, history_kept, step_kept}
 use Rattle.kms_laws.proofs.Traversal.{step_keeps}
 use Rattle.kms_core.specs.Decisions.{world}
 use Rattle.kms_core.specs.Locks.{IsTaking, MayLock}

@@ -2,16 +2,16 @@
 use Rattle.std.proofs.Common.{◌≡◌, ℕ, List, [], ◌∷◌, ◌++◌, append-nil, append_assoc, true, None, sym, ap, ◌∙◌, subst}
 use Rattle.kms_model.specs.declared.replies.Step.{Step}
 use Rattle.kms_model.specs.declared.scripts.Script.{Script}
-use Rattle.std.proofs.lemmas.Bool.{and_parts}
 use Rattle.kms_model.specs.Device.Serial.{command_of}
 use Rattle.kms_model.specs.Machine.Effects.{next}
-use Rattle.kms_model.specs.Machine.Histories.{are_legal, at, is_history, legal, run_steps}
+use Rattle.kms_model.specs.Machine.Histories.{at, is_history, legal, run_steps}
 use Rattle.kms_model.specs.Machine.State.{Machine, doing_at, first_machine, place_at, request_at, request_in}
 use Rattle.kms_model.specs.Machine.Steps.{returning_of}
 use Rattle.kms_core.specs.Run.{Run, machine}
 use Rattle.kms_histlock.specs.Rules.{IsStart}
 use Rattle.kms_device.specs.Attempts.{MayAttempt}
 use Rattle.kms_device.specs.Turns.{DevicePass, IsOpen, DeviceTurn, run_seen}
+use Rattle.kms_model.proofs.Guards.{legal_parts}
 use Rattle.kms_device.proofs.Found.{place-found}
 use Rattle.kms_device.proofs.Runs.{legal-behind, run-append}
 
@@ -70,10 +70,9 @@ module _ (script : Script) (says : Run → Type 0) (x : Step) (p q : DevicePass)
   whole = subst (λ s. is_history s (t.found.steps ++ x ∷ []) ≡ true) t.finds.same t.left.history
 
   pub legal-found : legal script (machine t.found) x ≡ true
-  unfolding are_legal
   legal-found =
       subst (λ m. legal script m x ≡ true) (ap (λ s. at s t.found.steps) (sym t.finds.same))
-      (and_parts _ _ (legal-behind script (first_machine script.topology) t.found.steps (x ∷ []) whole)).0
+      (legal_parts script _ x [] (legal-behind script (first_machine script.topology) t.found.steps (x ∷ []) whole)).first
 
   pub next-after : machine (run_seen script q) ≡ next script (machine t.found) x
   unfolding run_steps

@@ -1,10 +1,10 @@
 -- The first step of a commit's tail that is legal.
 use Rattle.std.proofs.Common.{◌≡◌, ℕ, ◌<◌, List, [], ◌∷◌, ◌++◌, map, cond, Option, Some, Bool, true, false, refl, sym, ap, ◌∙◌, arith, inl}
 use Rattle.std.proofs.Common.{All}
-use Rattle.std.specs.Prelude.{find, nat_le, not}
+use Rattle.std.specs.Prelude.{find, nat_le}
 use Rattle.std.specs.List.{range_with_len}
 use Rattle.std.specs.Option.{option_map, option_or, option_to_list}
-use Rattle.std.proofs.lemmas.Bool.{and_from, and_parts, le-leb, ltb-true}
+use Rattle.std.proofs.lemmas.Bool.{and_from, le-leb, ltb-true}
 use Rattle.std.proofs.lemmas.List.Elements.{All-append, All-cons, All-head, All-nil, All-tail}
 use Rattle.std.proofs.lemmas.List.Folds.{find-append}
 use Rattle.kms_model.specs.declared.objects.Kind.{Kind}
@@ -13,11 +13,10 @@ use Rattle.kms_model.specs.declared.objects.ObjId.{ObjId}
 use Rattle.kms_model.specs.declared.objects.Topology.{Topology}
 use Rattle.kms_model.specs.declared.replies.Step.{Step}
 use Rattle.kms_model.specs.declared.replies.Step.TheVariants as step
-use Rattle.kms_model.specs.Device.Objects.{count_of, exists, first_id, index_of, kind_of, object_id}
-use Rattle.kms_model.specs.Machine.Commits.{is_claimed}
-use Rattle.kms_model.specs.Machine.Histories.{for_each, legal}
-use Rattle.kms_model.specs.Machine.Steps.{may}
+use Rattle.kms_model.specs.Device.Objects.{count_of, first_id, index_of, kind_of, object_id}
+use Rattle.kms_model.specs.Machine.Histories.{for_each}
 use Rattle.kms_model.specs.Script.WellFormed.{IsWellFormed}
+use Rattle.kms_model.proofs.Guards.{legal_guards}
 use Rattle.kms_model.proofs.KindsOfIds.{index_of-object, kind_of-object}
 use Rattle.kms_model.proofs.TouchedLemmas.{few_objects, few_of}
 use Rattle.kms_model.proofs.Facts.{cond_mapped}
@@ -100,11 +99,9 @@ plain_tail client r k =
 
 -- an object that is written is one of the device, which has few
 pub few_index : (r : Run) (k : ℕ) (kind : Kind) (i : ℕ) → IsWellFormed r.script → is_legal r (step.Write k kind i) ≡ true → i < 100
-unfolding legal may
 few_index r k kind i formed h =
-    let claimed = (and_parts (not (machine r).stalled) _ h).1 in
-    let is_there = (and_parts (exists r.script.topology kind i) _ (and_parts (is_claimed (machine r).device k) _ claimed).1).0 in
-    let low = ltb-true i (count_of r.script.topology kind) is_there in
+    let there = (legal_guards r.script (machine r) (step.Write k kind i) h).there in
+    let low = ltb-true i (count_of r.script.topology kind) there in
     let few = few_of r.script.topology kind (few_objects r.script.topology formed.device) in
     omega (arith, low, few)
 

@@ -32,7 +32,7 @@ use Rattle.kms_script.proofs.StepsRead.{line_is_read}
 use Rattle.kms_read_back.specs.ReadBack.{IsFitEnd, IsFitEvent, IsFitLabel, IsFitReply, IsLong}
 use Rattle.kms_read_back.proofs.Bodies.{ArePlain, AreSmall, IsWord, digest-back, digest-is_word, digest-length, fields-plain, label-word}
 use Rattle.kms_read_back.proofs.Bodies.{number-word, object-word}
-use Rattle.kms_read_back.proofs.RepliesBack.{event-read, lone-read, reply-back, reply-plain}
+use Rattle.kms_read_back.proofs.RepliesBack.{number-plain, event-read, lone-read, reply-back, reply-plain}
 
 -- Lines without their line feeds
 
@@ -85,9 +85,6 @@ IsFitLine (says.Ended end) = IsFitEnd end
 IsFitLine (says.Stepped step) = IsFitStep step
 
 -- Each byte can be printed
-
-number-plain : (n : ℕ) → IsFitNumber n → list_all is_printable (decimal n) ≡ true
-number-plain n fits = (number-word n (omega (arith, fits))).plain
 
 digest-plain : (d : Option (List ℕ)) → IsDigest d → list_all is_printable (digest_word d) ≡ true
 digest-plain None fits = refl

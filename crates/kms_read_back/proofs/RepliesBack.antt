@@ -20,12 +20,12 @@ use Rattle.kms_model.specs.Report.ReplyFields.{busy_read, event_fields, lone_num
 use Rattle.kms_model.specs.Report.ReplyFields.{refusal_read, reply_of_word, reply_read, space_read}
 use Rattle.kms_model.specs.Report.Rules.{ENOMEM, EBUSY, errno_of}
 use Rattle.kms_model.specs.Request.Sets.{obj_id}
-use Rattle.kms_model.specs.Script.Grammar.{is_printable, object}
+use Rattle.kms_model.specs.Script.Grammar.{is_printable}
 use Rattle.kms_model.specs.Script.Schedules.{IsFitNumber, greatest_number}
 use Rattle.kms_model.specs.Script.Words.{between}
 use Rattle.kms_words.specs.Printed.{fields}
 use Rattle.kms_script.proofs.Cutting.{field_of, is_inner, number_of}
-use Rattle.kms_script.proofs.Decimals.{dec_read}
+use Rattle.kms_script.proofs.WordsBack.{object_back}
 use Rattle.kms_read_back.specs.ReadBack.{IsFitEvent, IsFitReply, IsNear}
 use Rattle.kms_read_back.proofs.Bodies.{ArePlain, denial-errno, is_errno, number-word, object-word, refusal-errno}
 
@@ -164,13 +164,6 @@ named-near id near =
       ]
     ]
 
-object-back : (kind : Kind) (index : ℕ) → index ≤ 255 → object (named_object kind index) ≡ Some (kind, index)
-unfolding object
-object-back Crtc index fits = rw (dec_read 255 index (omega arith) fits) refl
-object-back Plane index fits = rw (dec_read 255 index (omega arith) fits) refl
-object-back Conn index fits = rw (dec_read 255 index (omega arith) fits) refl
-object-back Enc index fits = rw (dec_read 255 index (omega arith) fits) refl
-
 named-id : (kind : Kind) (index : ℕ) → index < 100 → named_id kind index ≡ obj_id (object_id kind index)
 named-id kind index low = rw (lt-ltb index 100 low) refl
 
@@ -180,7 +173,7 @@ unfolding busy_read
 busy-fields kind index k low fits =
     rw (
       field_of (named_object kind index) (decimal k ∷ []) (object-word kind index (omega (arith, low))).inner,
-      object-back kind index
+      object_back kind index
           (omega (arith, low)),
     )
     (numbered-back (λ n. reply.Busy (named_id kind index) n) k fits ∙ ap (λ o. Some (reply.Busy o k)) (named-id kind index low))
@@ -237,7 +230,7 @@ reply-back (reply.Event e) fits = reply-begin (codes "event") (decimal e.user_da
     ∙ event-back e fits
 reply-back reply.NoEvent fits = reply-begin (codes "none") [] refl ∙ none-back
 
-number-plain : (n : ℕ) → IsFitNumber n → list_all is_printable (decimal n) ≡ true
+pub number-plain : (n : ℕ) → IsFitNumber n → list_all is_printable (decimal n) ≡ true
 number-plain n fits = (number-word n (omega (arith, fits))).plain
 
 pub reply-plain : (r : Reply) → IsFitReply r → ArePlain (reply_words r)

@@ -17,35 +17,35 @@ use Rattle.kms_regs.specs.Words.{ReadSame, bank_of, latched_plane}
 use Rattle.kms_regs.proofs.Rows.{four_alike, read-set, read-with_ids, read_here, read_past}
 
 -- what stands at an index is what is read
-pub plane_of_bank : (planes : List PlaneWords) (crtcs : List CrtcWords) (r : Registers) (index : ℕ) (d : PlaneWords)
+pub plane_of_bank : (planes : List PlaneWords) (crtcs : List CrtcWords) {r : Registers} (index : ℕ) (d : PlaneWords)
     → bank_of planes crtcs ≡ r → index < length planes
     → get_or planes index d ≡ plane_register r (object_id Plane index)
-plane_of_bank planes crtcs r index d is low =
+plane_of_bank planes crtcs index d is low =
     let first : PlaneWords = first_plane_words (object_id Plane index) in
     get_or_default planes index d first low ∙ sym (read-with_ids first planes (object_id Plane 0) index (object_id Plane index) refl) ∙ ap
     (λ (x : Registers). plane_register x (object_id Plane index)) is
 
-pub crtc_of_bank : (planes : List PlaneWords) (crtcs : List CrtcWords) (r : Registers) (index : ℕ) (d : CrtcWords)
+pub crtc_of_bank : (planes : List PlaneWords) (crtcs : List CrtcWords) {r : Registers} (index : ℕ) (d : CrtcWords)
     → bank_of planes crtcs ≡ r → index < length crtcs
     → get_or crtcs index d ≡ crtc_register r (object_id Crtc index)
-crtc_of_bank planes crtcs r index d is low =
+crtc_of_bank planes crtcs index d is low =
     get_or_default crtcs index d first_crtc_words low ∙ sym
     (read-with_ids first_crtc_words crtcs (object_id Crtc 0) index (object_id Crtc index) refl) ∙ ap
     (λ (x : Registers). crtc_register x (object_id Crtc index)) is
 
 -- a write at an index
-pub plane_set : (planes : List PlaneWords) (crtcs : List CrtcWords) (r : Registers) (index : ℕ) (x words : PlaneWords)
+pub plane_set : (planes : List PlaneWords) (crtcs : List CrtcWords) {r : Registers} (index : ℕ) {x words : PlaneWords}
     → bank_of planes crtcs ≡ r → index < length planes → x ≡ words
     → ReadSame (write_plane r (object_id Plane index) words) (bank_of (slice_set planes index x) crtcs)
-plane_set planes crtcs r index x words is low same =
+plane_set planes crtcs {r} index {x} is low same =
     subst (λ (w : PlaneWords). ReadSame (write_plane r (object_id Plane index) w) (bank_of (slice_set planes index x) crtcs)) same
     (subst (λ (from : Registers). ReadSame (write_plane from (object_id Plane index) x) (bank_of (slice_set planes index x) crtcs)) is
     (record { planes = λ i. read-set (first_plane_words (object_id Plane i)) x planes (object_id Plane 0) index i low; crtcs = λ i. refl }))
 
-pub crtc_set : (planes : List PlaneWords) (crtcs : List CrtcWords) (r : Registers) (index : ℕ) (x words : CrtcWords)
+pub crtc_set : (planes : List PlaneWords) (crtcs : List CrtcWords) {r : Registers} (index : ℕ) {x words : CrtcWords}
     → bank_of planes crtcs ≡ r → index < length crtcs → x ≡ words
     → ReadSame (write_crtc r (object_id Crtc index) words) (bank_of planes (slice_set crtcs index x))
-crtc_set planes crtcs r index x words is low same =
+crtc_set planes crtcs {r} index {x} is low same =
     subst (λ (w : CrtcWords). ReadSame (write_crtc r (object_id Crtc index) w) (bank_of planes (slice_set crtcs index x))) same
     (subst (λ (from : Registers). ReadSame (write_crtc from (object_id Crtc index) x) (bank_of planes (slice_set crtcs index x))) is
     (record { planes = λ i. refl; crtcs = λ i. read-set first_crtc_words x crtcs (object_id Crtc 0) index i low }))
@@ -66,11 +66,11 @@ none_latched shadow live crtc =
     record { copied = λ i low is. absurd (omega (arith, low)); kept = λ i not. refl; later = λ i past. refl; crtcs = λ i. refl }
 
 -- a plane that is copied
-latched_here : (shadow live now new : Registers) (crtc n : ℕ) → IsLatched shadow live now crtc n
+latched_here : {shadow live now new : Registers} {crtc n : ℕ} → IsLatched shadow live now crtc n
     → is_copied shadow live crtc (object_id Plane n) ≡ true
     → ReadSame (write_plane now (object_id Plane n) (plane_register shadow (object_id Plane n))) new
     → IsLatched shadow live new crtc (n + 1)
-latched_here shadow live now new crtc n h here same =
+latched_here {shadow} {live} {now} {new} {crtc} {n} h here same =
     let words : PlaneWords = plane_register shadow (object_id Plane n) in
     let past : (i : ℕ) → n ≢ i → plane_register new (object_id Plane i) ≡ plane_register now (object_id Plane i) = λ i other.
     sym (same.planes i) ∙ read_past (first_plane_words (object_id Plane i)) words now.planes (object_id Plane n) (object_id Plane i)
@@ -90,10 +90,10 @@ latched_here shadow live now new crtc n h here same =
     }
 
 -- a plane that is not
-latched_past : (shadow live now new : Registers) (crtc n : ℕ) → IsLatched shadow live now crtc n
+latched_past : {shadow live now new : Registers} {crtc n : ℕ} → IsLatched shadow live now crtc n
     → is_copied shadow live crtc (object_id Plane n) ≡ false
     → ReadSame now new → IsLatched shadow live new crtc (n + 1)
-latched_past shadow live now new crtc n h here same = record {
+latched_past {shadow} {live} {crtc} {n} h here same = record {
   copied = λ i low is. elim (cases_eq n i) [
     | inl e ↦ absurd (false≢true (sym here ∙ ap (λ (k : ℕ). is_copied shadow live crtc (object_id Plane k)) e ∙ is))
     | inr other ↦ sym (same.planes i) ∙ h.copied i (omega (arith, low, other)) is
@@ -110,17 +110,17 @@ copied_set shadow live b crtc plane is same =
     subst (λ (test : Bool). ReadSame (if test then write_plane live plane (plane_register shadow plane) else live) b) (sym is) same
 
 -- the next plane
-pub latched_next : (shadow live now new : Registers) (crtc n : ℕ) → IsLatched shadow live now crtc n
+pub latched_next : {shadow live now new : Registers} {crtc n : ℕ} → IsLatched shadow live now crtc n
     → ReadSame (latched_plane shadow now crtc (object_id Plane n)) new → IsLatched shadow live new crtc (n + 1)
-latched_next shadow live now new crtc n h same =
+latched_next {shadow} {live} {now} {new} {crtc} {n} h same =
     let there : PlaneWords = plane_register shadow (object_id Plane n) in
     let test : is_copied shadow now crtc (object_id Plane n)
     ≡ is_copied shadow live crtc (object_id Plane n) = ap (λ (w : PlaneWords). (w.crtc == crtc) || (there.crtc == crtc))
     (h.later n (omega arith)) in
     elim (cases_Bool (is_copied shadow live crtc (object_id Plane n))) [
-      | inl on_it ↦ latched_here shadow live now new crtc n h on_it
+      | inl on_it ↦ latched_here h on_it
           (subst (λ (b : Bool). ReadSame (if b then write_plane now (object_id Plane n) there else now) new) (test ∙ on_it) same)
-      | inr off_it ↦ latched_past shadow live now new crtc n h off_it
+      | inr off_it ↦ latched_past h off_it
           (subst (λ (b : Bool). ReadSame (if b then write_plane now (object_id Plane n) there else now) new) (test ∙ off_it) same)
     ]
 
@@ -178,9 +178,9 @@ copied-copied shadow live crtc from (suc n) i d low high is =
     ]
 
 -- the planes of a latch
-planes_latched : (t : Topology) (shadow live now : Registers) (crtc : ℕ) → IsLatched shadow live now crtc (length t.planes) → (i : ℕ)
+planes_latched : (t : Topology) {shadow live now : Registers} {crtc : ℕ} → IsLatched shadow live now crtc (length t.planes) → (i : ℕ)
     → plane_register (latched_registers t shadow live crtc) (object_id Plane i) ≡ plane_register now (object_id Plane i)
-planes_latched t shadow live now crtc h i =
+planes_latched t {shadow} {live} {crtc} h i =
     let d : PlaneWords = first_plane_words (object_id Plane i) in
     elim (cases_lt i (length t.planes)) [
       | inl low ↦ elim (cases_Bool (is_copied shadow live crtc (object_id Plane i))) [
@@ -214,16 +214,16 @@ crtcs_latched shadow live crtcs planes index x low is same i =
     ]
 
 -- a whole latch
-pub latched_all : (t : Topology) (shadow live now : Registers) (planes : List PlaneWords) (crtcs : List CrtcWords) (n index : ℕ)
-    (x : CrtcWords) → IsLatched shadow live now (object_id Crtc index) n → n ≡ length t.planes
+pub latched_all : (t : Topology) {shadow live now : Registers} (planes : List PlaneWords) (crtcs : List CrtcWords) {n : ℕ} (index : ℕ)
+    {x : CrtcWords} → IsLatched shadow live now (object_id Crtc index) n → n ≡ length t.planes
     → bank_of planes crtcs ≡ now → index < length crtcs → x ≡ crtc_register shadow (object_id Crtc index)
     → ReadSame (latched_registers t shadow live (object_id Crtc index)) (bank_of planes (slice_set crtcs index x))
-latched_all t shadow live now planes crtcs n index x h all is low same =
+latched_all t {shadow} {live} planes crtcs {n} index {x} h all is low same =
     let whole : IsLatched shadow live (bank_of planes crtcs) (object_id Crtc index) (length t.planes) =
     subst (λ (k : ℕ). IsLatched shadow live (bank_of planes crtcs) (object_id Crtc index) k) all
     (subst (λ (r : Registers). IsLatched shadow live r (object_id Crtc index) n) (sym is) h) in
     record {
-      planes = planes_latched t shadow live (bank_of planes crtcs) (object_id Crtc index) whole;
+      planes = planes_latched t whole;
       crtcs = crtcs_latched shadow live
           crtcs planes index x low same whole.crtcs;
     }
@@ -236,9 +236,9 @@ pub record AreFirst (planes : List PlaneWords) (n : ℕ) : Type 0 where
   pub first : (i : ℕ) → i < n → get_or planes i (first_plane_words (object_id Plane i)) ≡ first_plane_words (object_id Plane i)
 
 -- one plane more
-pub first_next : (planes : List PlaneWords) (n : ℕ) (x : PlaneWords) → AreFirst planes n → n < 16
+pub first_next : {planes : List PlaneWords} {n : ℕ} {x : PlaneWords} → AreFirst planes n → n < 16
     → x ≡ first_plane_words (object_id Plane n) → AreFirst (slice_set planes n x) (n + 1)
-first_next planes n x h low is = record {
+first_next {planes} {n} {x} h low is = record {
   long = length-set planes n x ∙ h.long;
   first = λ i below. elim (cases_eq i n) [
     | inl e ↦ get_or-set_at planes n i x (first_plane_words (object_id Plane i)) e (omega (arith, h.long, low)) ∙ is ∙ ap
@@ -248,10 +248,10 @@ first_next planes n x h low is = record {
 }
 
 -- all words are those at the start
-pub first_all : (planes : List PlaneWords) (n : ℕ) (x : CrtcWords) → AreFirst planes n → 16 ≤ n → x ≡ first_crtc_words
+pub first_all : {planes : List PlaneWords} {n : ℕ} {x : CrtcWords} → AreFirst planes n → 16 ≤ n → x ≡ first_crtc_words
     → ReadSame first_registers (bank_of planes (x ∷ x ∷ x ∷ x ∷ []))
 unfolding read
-first_all planes n x h all is = record {
+first_all {planes} h all is = record {
   planes = λ i. sym (read-with_ids (first_plane_words (object_id Plane i)) planes (object_id Plane 0) i (object_id Plane i) refl ∙
       elim (cases_lt i 16) [
         | inl low ↦ h.first i (omega (arith, low, all))

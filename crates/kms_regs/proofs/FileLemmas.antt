@@ -26,8 +26,8 @@ use Rattle.kms_regs.proofs.Rows.{four_alike, other_id, read-set, read-with_ids, 
 use Rattle.kms_regs.proofs.SameWords.{same_after, same_decoded, same_latched, same_write_crtc, same_write_plane}
 
 -- a register file that is opened
-pub opened : (t : Topology) (d : DeviceState) (f g : RegisterFile) → f ≡ g → StandsForDevice t d g → StandsForDevice t d f
-opened t d f g is stands = subst (λ (x : RegisterFile). StandsForDevice t d x) (sym is) stands
+pub opened : (t : Topology) (d : DeviceState) {f g : RegisterFile} → f ≡ g → StandsForDevice t d g → StandsForDevice t d f
+opened t d is stands = subst (λ (x : RegisterFile). StandsForDevice t d x) (sym is) stands
 
 -- Rows of CRTCs
 
@@ -63,14 +63,14 @@ row_kept f d e rows xs index v same is i =
     ]
 
 -- what stands at an index
-pub own_count : (planes : ℕ) (s l : Registers) (go : List Bool) (counts : List ℕ) (f : RegisterFile) (index : ℕ)
+pub own_count : (planes : ℕ) (s l : Registers) (go : List Bool) (counts : List ℕ) {f : RegisterFile} (index : ℕ)
     → file_of planes s l go counts ≡ f → get_or counts index 0 ≡ blanking_count f (object_id Crtc index)
-own_count planes s l go counts f index is = sym (read-with_ids 0 counts (object_id Crtc 0) index (object_id Crtc index) refl) ∙ ap
+own_count planes s l go counts index is = sym (read-with_ids 0 counts (object_id Crtc 0) index (object_id Crtc index) refl) ∙ ap
     (λ (x : RegisterFile). blanking_count x (object_id Crtc index)) is
 
-pub own_go : (planes : ℕ) (s l : Registers) (go : List Bool) (counts : List ℕ) (f : RegisterFile) (index : ℕ)
+pub own_go : (planes : ℕ) (s l : Registers) (go : List Bool) (counts : List ℕ) {f : RegisterFile} (index : ℕ)
     → file_of planes s l go counts ≡ f → get_or go index false ≡ has_go f (object_id Crtc index)
-own_go planes s l go counts f index is = sym (read-with_ids false go (object_id Crtc 0) index (object_id Crtc index) refl) ∙ ap
+own_go planes s l go counts index is = sym (read-with_ids false go (object_id Crtc 0) index (object_id Crtc index) refl) ∙ ap
     (λ (x : RegisterFile). has_go x (object_id Crtc index)) is
 
 -- Calls
@@ -78,11 +78,11 @@ own_go planes s l go counts f index is = sym (read-with_ids false go (object_id 
 abbrev no_counts : List ℕ
 no_counts = 0 ∷ 0 ∷ 0 ∷ 0 ∷ []
 
-pub started : (t : Topology) (planes : ℕ) (s l : Registers) (first : Registers) → length t.planes ≡ planes → ReadSame first s
+pub started : (t : Topology) {planes : ℕ} {s l : Registers} {first : Registers} → length t.planes ≡ planes → ReadSame first s
     → ReadSame first l
     → Holds t first first [] [] (file_of planes s l (false ∷ false ∷ false ∷ false ∷ []) no_counts)
 unfolding read
-started t planes s l first of_device shadow live = record {
+started t {planes} of_device shadow live = record {
   planes = of_device;
   shadow_words = shadow;
   live_words = live;
@@ -91,10 +91,10 @@ started t planes s l first of_device shadow live = record {
   counted = λ i. sym (read-with_ids 0 no_counts (object_id Crtc 0) i (object_id Crtc i) refl ∙ four_alike 0 i);
 }
 
-pub wrote : (t : Topology) (d : DeviceState) (planes : ℕ) (s l : Registers) (go : List Bool) (counts : List ℕ) (shadow s' : Registers)
+pub wrote : (t : Topology) (d : DeviceState) (planes : ℕ) (s l : Registers) (go : List Bool) (counts : List ℕ) {shadow s' : Registers}
     → StandsForDevice t d (file_of planes s l go counts) → ReadSame shadow s'
     → StandsForDevice t (with_shadow d shadow) (file_of planes s' l go counts)
-wrote t d planes s l go counts shadow s' h same =
+wrote t d planes s l go counts h same =
     record { planes = h.planes; shadow_words = same; live_words = h.live_words; goes = h.goes; counted = h.counted }
 
 -- what a write makes of the words is what it makes of the device's
@@ -103,32 +103,32 @@ same_rewrite_plane : (a b : Registers) (index : ℕ) (o n : PlaneWords) → Read
 same_rewrite_plane a b index o n same =
     subst (λ (w : PlaneWords). ReadSame (rewrite_plane a (object_id Plane index) o n)
     (write_plane b (object_id Plane index) (rewritten_plane w o n))) (same.planes index)
-    (same_write_plane a b (object_id Plane index) (rewritten_plane (plane_register a (object_id Plane index)) o n) same)
+    (same_write_plane (object_id Plane index) (rewritten_plane (plane_register a (object_id Plane index)) o n) same)
 
 same_rewrite_crtc : (a b : Registers) (index : ℕ) (o n : CrtcWords) → ReadSame a b
     → ReadSame (rewrite_crtc a (object_id Crtc index) o n) (rewrite_crtc b (object_id Crtc index) o n)
 same_rewrite_crtc a b index o n same =
     subst (λ (w : CrtcWords). ReadSame (rewrite_crtc a (object_id Crtc index) o n)
     (write_crtc b (object_id Crtc index) (rewritten_crtc w o n))) (same.crtcs index)
-    (same_write_crtc a b (object_id Crtc index) (rewritten_crtc (crtc_register a (object_id Crtc index)) o n) same)
+    (same_write_crtc (object_id Crtc index) (rewritten_crtc (crtc_register a (object_id Crtc index)) o n) same)
 
 pub rewrote_plane : (t : Topology) (d : DeviceState) (planes : ℕ) (s l : Registers) (go : List Bool) (counts : List ℕ) (index : ℕ)
-    (o n old new : PlaneWords) (s' : Registers) → StandsForDevice t d (file_of planes s l go counts) → o ≡ old → n ≡ new
+    {o n old new : PlaneWords} {s' : Registers} → StandsForDevice t d (file_of planes s l go counts) → o ≡ old → n ≡ new
     → ReadSame (rewrite_plane s (object_id Plane index) o n) s'
     → StandsForDevice t (with_shadow d (rewrite_plane d.shadow (object_id Plane index) old new)) (file_of planes s' l go counts)
-rewrote_plane t d planes s l go counts index o n old new s' h before after same =
-    wrote t d planes s l go counts _ s' h
-    (same_after _ _ _ (same_rewrite_plane d.shadow s index old new h.shadow_words)
+rewrote_plane t d planes s l go counts index {n} {old} {new} {s'} h before after same =
+    wrote t d planes s l go counts h
+    (same_after (same_rewrite_plane d.shadow s index old new h.shadow_words)
     (subst (λ (w : PlaneWords). ReadSame (rewrite_plane s (object_id Plane index) old w) s') after
     (subst (λ (w : PlaneWords). ReadSame (rewrite_plane s (object_id Plane index) w n) s') before same)))
 
 pub rewrote_crtc : (t : Topology) (d : DeviceState) (planes : ℕ) (s l : Registers) (go : List Bool) (counts : List ℕ) (index : ℕ)
-    (o n old new : CrtcWords) (s' : Registers) → StandsForDevice t d (file_of planes s l go counts) → o ≡ old → n ≡ new
+    {o n old new : CrtcWords} {s' : Registers} → StandsForDevice t d (file_of planes s l go counts) → o ≡ old → n ≡ new
     → ReadSame (rewrite_crtc s (object_id Crtc index) o n) s'
     → StandsForDevice t (with_shadow d (rewrite_crtc d.shadow (object_id Crtc index) old new)) (file_of planes s' l go counts)
-rewrote_crtc t d planes s l go counts index o n old new s' h before after same =
-    wrote t d planes s l go counts _ s' h
-    (same_after _ _ _ (same_rewrite_crtc d.shadow s index old new h.shadow_words)
+rewrote_crtc t d planes s l go counts index {n} {old} {new} {s'} h before after same =
+    wrote t d planes s l go counts h
+    (same_after (same_rewrite_crtc d.shadow s index old new h.shadow_words)
     (subst (λ (w : CrtcWords). ReadSame (rewrite_crtc s (object_id Crtc index) old w) s') after
     (subst (λ (w : CrtcWords). ReadSame (rewrite_crtc s (object_id Crtc index) w n) s') before same)))
 
@@ -167,7 +167,7 @@ pub same_live : (t : Topology) (d : DeviceState) (planes : ℕ) (s l : Registers
     (l' : Registers) → StandsForDevice t d (file_of planes s l go counts) → Latches planes s l index l'
     → ReadSame (latched_registers t d.shadow d.live (object_id Crtc index)) l'
 same_live t d planes s l go counts index l' h latches =
-    same_after _ _ _ (same_latched t d.shadow s d.live l index h.shadow_words h.live_words) (latches t h.planes)
+    same_after (same_latched t d.shadow s d.live l index h.shadow_words h.live_words) (latches t h.planes)
 
 pub latched_file : (t : Topology) (d : DeviceState) (planes : ℕ) (s l : Registers) (go : List Bool) (counts : List ℕ) (index : ℕ)
     (l' : Registers) → StandsForDevice t d (file_of planes s l go counts) → Latches planes s l index l'
@@ -188,7 +188,7 @@ on_there d s index w same is on = ap not (other_id (crtc_register d (object_id C
 
 off_there : (d s : Registers) (index : ℕ) (w : CrtcWords) → ReadSame d s → w ≡ crtc_register s (object_id Crtc index) → w.active ≡ 0
     → is_on_in d (object_id Crtc index) ≡ false
-off_there d s index w same is off = ap not (same_id (crtc_register d (object_id Crtc index)).active 0
+off_there d s index w same is off = ap not (same_id
     (sym (ap (λ (x : CrtcWords). x.active) (is ∙ sym (same.crtcs index))) ∙ off))
 
 pub flushed_on : (t : Topology) (d : DeviceState) (planes : ℕ) (s l : Registers) (go : List Bool) (counts : List ℕ) (index k : ℕ)
@@ -215,7 +215,7 @@ pub off_latched : (t : Topology) (d : DeviceState) (planes : ℕ) (s l : Registe
     → w ≡ crtc_register s (object_id Crtc index) → w.active ≡ 0 → Off ≡ latched_picture t d (object_id Crtc index)
 off_latched t d planes s l go counts index w h is off =
     let words : CrtcWords = crtc_register d.shadow (object_id Crtc index) in
-    decoded_off t (latched_registers t d.shadow d.live (object_id Crtc index)) (object_id Crtc index) w
+    decoded_off t (latched_registers t d.shadow d.live (object_id Crtc index)) (object_id Crtc index)
     (is ∙ sym (h.shadow_words.crtcs index) ∙ sym (read_here first_crtc_words words d.live.crtcs (object_id Crtc index)
     (object_id Crtc index) refl)) off
 
@@ -258,12 +258,12 @@ blanked_still_picture t d planes s l go counts index h off =
     sym (ap (λ (b : Bool). if b then Some (latched_picture t d (object_id Crtc index)) else None)
     (go_there t d planes s l go counts index false h off))
 
-pub blanked_latched : (t : Topology) (d : DeviceState) (planes : ℕ) (s l : Registers) (go : List Bool) (counts : List ℕ) (index : ℕ)
-    (l' : Registers) → StandsForDevice t d (file_of planes s l go counts) → index < length counts → index < length go
+pub blanked_latched : (t : Topology) (d : DeviceState) {planes : ℕ} {s l : Registers} (go : List Bool) (counts : List ℕ) {index : ℕ}
+    {l' : Registers} → StandsForDevice t d (file_of planes s l go counts) → index < length counts → index < length go
     → get_or go index false ≡ true → Latches planes s l index l'
     → StandsForDevice t (blanked t d (object_id Crtc index))
     (file_of planes s l' (slice_set go index false) (slice_set counts index (get_or counts index 0 + 1)))
-blanked_latched t d planes s l go counts index l' h low low_go on latches =
+blanked_latched t d {planes} {s} {l} go counts {index} {l'} h low low_go on latches =
     let ticked : StandsForDevice t (counted d (object_id Crtc index))
     (file_of planes s l (slice_set go index false) (slice_set counts index (get_or counts index 0 + 1))) =
     counted_file t d planes s l go (slice_set go index false) counts index h low

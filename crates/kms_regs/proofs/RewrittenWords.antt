@@ -73,10 +73,10 @@ pub record AreWritten (first old new words : List ℕ) (n : ℕ) : Type 0 where
   pub below : (p : ℕ) → p < n → get_or words p 0 ≡ rewritten (get_or first p 0) (get_or old p 0) (get_or new p 0)
   pub behind : (p : ℕ) → n ≤ p → get_or words p 0 ≡ get_or first p 0
 
-pub written_next : (first old new words : List ℕ) (n x : ℕ) → AreWritten first old new words n → n < length words
+pub written_next : {first old new words : List ℕ} {n x : ℕ} → AreWritten first old new words n → n < length words
     → x ≡ rewritten (get_or words n 0) (get_or old n 0) (get_or new n 0)
     → AreWritten first old new (slice_set words n x) (n + 1)
-written_next first old new words n x h low is = record {
+written_next {old} {new} {words} {n} {x} h low is = record {
   long = length-set words n x ∙ h.long;
   below = λ p up. elim (cases_lt p n) [
     | inl less ↦ (let apart : p ≢ n = omega arith in get_or-set_other words n p x 0 apart ∙ h.below p less)
@@ -86,8 +86,8 @@ written_next first old new words n x h low is = record {
   behind = λ p from. (let apart : p ≢ n = omega arith in get_or-set_other words n p x 0 apart ∙ h.behind p (omega arith));
 }
 
-pub written_all : (first old new words : List ℕ) (n : ℕ) → AreWritten first old new words n → length first ≤ n → length first ≡ length old
+pub written_all : {first old new words : List ℕ} {n : ℕ} → AreWritten first old new words n → length first ≤ n → length first ≡ length old
     → length first ≡ length new → words ≡ rewritten_words first old new
-written_all first old new words n h all a b =
+written_all {first} {old} {new} {words} h all a b =
     ext_get_or 0 words (rewritten_words first old new) (h.long ∙ sym (length-rewritten first old new a b))
     (λ p low. h.below p (omega (arith, low, h.long, all)) ∙ sym (at-rewritten first old new p a b (omega (arith, low, h.long))))

@@ -8,8 +8,8 @@ use Rattle.std.proofs.lemmas.List.{get_or-set_same, get_or-set_other}
 use Rattle.kms_model.specs.Machine.Registers.{read}
 use Rattle.kms_model.specs.Request.Checks.{with_ids}
 
-pub same_id : (a b : ℕ) → a ≡ b → (a == b) ≡ true
-same_id a b same = elim (eqb_tells a b) [ inl is ↦ is.0 | inr other ↦ absurd (other.1 same) ]
+pub same_id : {a b : ℕ} → a ≡ b → (a == b) ≡ true
+same_id {a} {b} same = elim (eqb_tells a b) [ inl is ↦ is.0 | inr other ↦ absurd (other.1 same) ]
 
 pub other_id : (a b : ℕ) → a ≢ b → (a == b) ≡ false
 other_id a b other = elim (eqb_tells a b) [ inl is ↦ absurd (other is.1) | inr not ↦ not.0 ]
@@ -17,7 +17,7 @@ other_id a b other = elim (eqb_tells a b) [ inl is ↦ absurd (other is.1) | inr
 -- the row in front
 pub read_here : {A : Type 0} (d x : A) (rows : List (ℕ × A)) (id at : ℕ) → id ≡ at → read d ((id, x) ∷ rows) at ≡ x
 unfolding read
-read_here {A} d x rows id at same = ap (λ (b : Bool). if b then x else read d rows at) (same_id id at same)
+read_here {A} d x rows id at same = ap (λ (b : Bool). if b then x else read d rows at) (same_id same)
 
 pub read_past : {A : Type 0} (d x : A) (rows : List (ℕ × A)) (id at : ℕ) → id ≢ at → read d ((id, x) ∷ rows) at ≡ read d rows at
 unfolding read

@@ -17,33 +17,33 @@ use Rattle.kms_model.specs.Machine.Registers.{plane_register, read, shown_in_wor
 use Rattle.kms_regs.specs.Words.{ReadSame}
 use Rattle.kms_regs.proofs.BankLemmas.{copied-copied, kept-copied, later-copied}
 
-pub same_after : (a b c : Registers) → ReadSame a b → ReadSame b c → ReadSame a c
-same_after a b c first second = record { planes = λ i. first.planes i ∙ second.planes i; crtcs = λ i. first.crtcs i ∙ second.crtcs i }
+pub same_after : {a b c : Registers} → ReadSame a b → ReadSame b c → ReadSame a c
+same_after first second = record { planes = λ i. first.planes i ∙ second.planes i; crtcs = λ i. first.crtcs i ∙ second.crtcs i }
 
-pub same_write_plane : (a b : Registers) (plane : ℕ) (words : PlaneWords) → ReadSame a b
+pub same_write_plane : {a b : Registers} (plane : ℕ) (words : PlaneWords) → ReadSame a b
     → ReadSame (write_plane a plane words) (write_plane b plane words)
 unfolding read
-same_write_plane a b plane words same = record {
+same_write_plane plane words same = record {
   planes = λ i. ap (λ (x : PlaneWords). if plane == object_id Plane i then words else x) (same.planes i);
   crtcs = same.crtcs;
 }
 
-pub same_write_crtc : (a b : Registers) (crtc : ℕ) (words : CrtcWords) → ReadSame a b
+pub same_write_crtc : {a b : Registers} (crtc : ℕ) (words : CrtcWords) → ReadSame a b
     → ReadSame (write_crtc a crtc words) (write_crtc b crtc words)
 unfolding read
-same_write_crtc a b crtc words same = record {
+same_write_crtc crtc words same = record {
   planes = same.planes;
   crtcs = λ i. ap (λ (x : CrtcWords). if crtc == object_id Crtc i then words else x) (same.crtcs i);
 }
 
-same_copied : (s s' l l' : Registers) (crtc i : ℕ) → ReadSame s s' → ReadSame l l'
+same_copied : {s s' l l' : Registers} (crtc i : ℕ) → ReadSame s s' → ReadSame l l'
     → is_copied s l crtc (object_id Plane i) ≡ is_copied s' l' crtc (object_id Plane i)
-same_copied s s' l l' crtc i shadow live = rw (shadow.planes i, live.planes i) refl
+same_copied crtc i shadow live = rw (shadow.planes i, live.planes i) refl
 
-same_latched_plane : (t : Topology) (s s' l l' : Registers) (crtc i : ℕ) → ReadSame s s' → ReadSame l l'
+same_latched_plane : (t : Topology) {s s' l l' : Registers} (crtc i : ℕ) → ReadSame s s' → ReadSame l l'
     → plane_register (latched_registers t s l crtc) (object_id Plane i)
     ≡ plane_register (latched_registers t s' l' crtc) (object_id Plane i)
-same_latched_plane t s s' l l' crtc i shadow live =
+same_latched_plane t {s} {s'} {l} {l'} crtc i shadow live =
     let d : PlaneWords = first_plane_words (object_id Plane i) in
     let n : ℕ = length t.planes in
     elim (cases_lt i n) [
@@ -51,10 +51,10 @@ same_latched_plane t s s' l l' crtc i shadow live =
         | inl on_it ↦
             copied-copied s l crtc 0 n i d (omega arith) (omega (arith, low)) on_it ∙ shadow.planes i
             ∙ sym (copied-copied s' l' crtc 0 n i d (omega arith) (omega (arith, low))
-            (sym (same_copied s s' l l' crtc i shadow live) ∙ on_it))
+            (sym (same_copied crtc i shadow live) ∙ on_it))
         | inr off_it ↦
             kept-copied s l crtc 0 n i d off_it ∙ live.planes i ∙ sym
-            (kept-copied s' l' crtc 0 n i d (sym (same_copied s s' l l' crtc i shadow live) ∙ off_it))
+            (kept-copied s' l' crtc 0 n i d (sym (same_copied crtc i shadow live) ∙ off_it))
       ]
       | inr past ↦ later-copied s l crtc 0 n i d (omega (arith, past)) ∙ live.planes i ∙ sym
           (later-copied s' l' crtc 0 n i d (omega (arith, past)))
@@ -71,7 +71,7 @@ same_latched_crtc s s' l l' index i shadow live =
 pub same_latched : (t : Topology) (s s' l l' : Registers) (index : ℕ) → ReadSame s s' → ReadSame l l'
     → ReadSame (latched_registers t s l (object_id Crtc index)) (latched_registers t s' l' (object_id Crtc index))
 same_latched t s s' l l' index shadow live = record {
-  planes = λ i. same_latched_plane t s s' l l' (object_id Crtc index) i shadow live;
+  planes = λ i. same_latched_plane t (object_id Crtc index) i shadow live;
   crtcs = λ i. same_latched_crtc s s' l l' index i shadow live;
 }
 

@@ -53,9 +53,9 @@ natural_back : (z : ℤ) → pos 0 ≤ℤ z → pos (natural z) ≡ z
 natural_back (pos n) low = refl
 natural_back (negsuc n) low = absurd (omega (arith, ints, low))
 
-pub plane_back : (s : PlaneState) → IsWritable s → plane_in (plane_words s) ≡ s
+pub plane_back : {s : PlaneState} → IsWritable s → plane_in (plane_words s) ≡ s
 unfolding plane_in plane_words
-plane_back s h =
+plane_back {s} h =
     rw (
       fb_back s.fb h.has_id,
       signed_back s.dst.x h.in_range.x,
@@ -84,10 +84,10 @@ gamma_read c (Some g) on words has = rw (on, words) (ap Some (gamma_back g has))
 
 -- What words show that were written for states
 
-plane_read : (t : Topology) (rs : Registers) (crtc conn : ℕ) (s : CrtcState) (state : ℕ → PlaneState) → AreWritten t rs crtc conn s state
+plane_read : {t : Topology} {rs : Registers} {crtc conn : ℕ} {s : CrtcState} {state : ℕ → PlaneState} → AreWritten t rs crtc conn s state
     → (i : ℕ) → i < length t.planes
     → plane_in (plane_register rs (object_id Plane i)) ≡ state (object_id Plane i)
-plane_read t rs crtc conn s state h i low = ap plane_in (h.planes_are i low) ∙ plane_back (state (object_id Plane i)) (h.states_are i low)
+plane_read {state} h i low = ap plane_in (h.planes_are i low) ∙ plane_back (h.states_are i low)
 
 abbrev words_with : ℕ → Bool → Option Mode → Option Gamma → CrtcWords
 words_with conn active mode gamma = record {
@@ -114,10 +114,10 @@ by_state t rs crtc conn state read true (Some m) gamma has table =
 by_state t rs crtc conn state read true None gamma has table = absurd has
 by_state t rs crtc conn state read false mode gamma has table = refl
 
-pub decoded_written : (t : Topology) (rs : Registers) (crtc conn : ℕ) (s : CrtcState) (state : ℕ → PlaneState)
+pub decoded_written : {t : Topology} {rs : Registers} {crtc conn : ℕ} {s : CrtcState} {state : ℕ → PlaneState}
     → AreWritten t rs crtc conn s state
     → decoded_picture t rs (object_id Crtc crtc) ≡ picture_of_states t (object_id Crtc crtc) state conn s.gamma s.active s.mode
 unfolding decoded_picture crtc_words
-decoded_written t rs crtc conn s state h =
+decoded_written {t} {rs} {crtc} {conn} {s} {state} h =
     ap (λ (c : CrtcWords). if not (c.active == 0) then shown_in_words t rs (object_id Crtc crtc) c else Off) h.crtc_is
-    ∙ by_state t rs (object_id Crtc crtc) conn state (plane_read t rs crtc conn s state h) s.active s.mode s.gamma h.mode_is h.gamma_is
+    ∙ by_state t rs (object_id Crtc crtc) conn state (plane_read h) s.active s.mode s.gamma h.mode_is h.gamma_is

@@ -95,9 +95,9 @@ pub unnamed-unset : (w : World) (r : Request) (crtc : ℕ) → names w.values (a
 unnamed-unset w r crtc unnamed = items.list_any-none (λ a. object_of a == crtc) r.assigns
     (λ a is. (or_parts (object_of a == crtc) _ (items.list_any-at (is_named_by w.values (after w r) crtc) r.assigns a unnamed is)).0)
 
-pub unnamed-unneeded : (t : Topology) (w : World) (r : Request) (crtc : ℕ) → IsRequestAt t w r → names w.values (after w r) r.assigns crtc
+pub unnamed-unneeded : {t : Topology} {w : World} {r : Request} (crtc : ℕ) → IsRequestAt t w r → names w.values (after w r) r.assigns crtc
     ≡ false → needs_modeset t w.things w.values (after w r) crtc ≡ false
-unnamed-unneeded t w r crtc at unnamed = untouched-modeset t w r crtc at
+unnamed-unneeded {t} {w} {r} crtc at unnamed = untouched-modeset t w r crtc at
     (or_from (sets r.assigns crtc) _ (unnamed-unset w r crtc unnamed) unnamed)
 
 -- what a request affects of a kind of objects by one CRTC
@@ -118,11 +118,11 @@ pub record IsPart (t : Topology) (k : Kind) (part : Mask → ℕ) (routed : Crtc
       ≡ bit_or (routed s.old) (routed s.new)
   pub of_values : (things : _) (values : _) (crtc : ℕ) → routed (crtc_state_at t things values crtc) ≡ on_crtc t values crtc k
 
-part-of_crtc : (t : Topology) (w : World) (r : Request) (d : Duplicates) (k : Kind) (part : Mask → ℕ) (routed : CrtcState → ℕ) (c : ℕ)
+part-of_crtc : {t : Topology} {w : World} {r : Request} {d : Duplicates} {k : Kind} {part : Mask → ℕ} {routed : CrtcState → ℕ} (c : ℕ)
     → StandAt t w r d → IsPart t k part routed
     → ((i : ℕ) → i < t.crtcs → names w.values (after w r) r.assigns (object_id kind.Crtc i) ≡ true → is_some (state_at d.crtcs i) ≡ true)
     → part (affected_with (duplicate_in (named_by t w r) d.crtcs c)) ≡ mask_below (affects t w r k c) (count_of t k)
-part-of_crtc t w r d k part routed c stand is there = go (has_bit named c) refl (state_at d.crtcs c) refl
+part-of_crtc {t} {w} {r} {d} {k} {part} {routed} c stand is there = go (has_bit named c) refl (state_at d.crtcs c) refl
   where
     named : ℕ
     named = named_by t w r
@@ -139,7 +139,7 @@ part-of_crtc t w r d k part routed c stand is there = go (has_bit named c) refl 
           ≡ false = ap (λ b. b && names w.values (after w r) r.assigns (object_id kind.Crtc c)) (sym (lt-ltb c t.crtcs within)) ∙ sym
           (named_bit t w r c) ∙ out in
           and_right (nat_lt c t.crtcs) _ (and_left (needs_modeset t w.things w.values (after w r) (object_id kind.Crtc c)) _
-          (unnamed-unneeded t w r (object_id kind.Crtc c) stand.at unnamed)))
+          (unnamed-unneeded (object_id kind.Crtc c) stand.at unnamed)))
       | inr beyond ↦ and_left (nat_lt c t.crtcs) _ (le-ltb c t.crtcs beyond)
     ]
 
@@ -196,13 +196,13 @@ crtcs-none crtcs named (suc n) = ap (λ x. bit_or x (affected_with (duplicate_in
     one None = refl
     one (Some s) = elim (cases_Bool (needs_modeset_between s)) [ inl is ↦ rw is refl | inr other ↦ rw other refl ]
 
-affected-kind : (t : Topology) (w : World) (r : Request) (d : Duplicates) (k : Kind) (part : Mask → ℕ) (routed : CrtcState → ℕ)
+affected-kind : {t : Topology} {w : World} {r : Request} {d : Duplicates} {k : Kind} {part : Mask → ℕ} {routed : CrtcState → ℕ}
     → StandAt t w r d → IsPart t k part routed
     → ((i : ℕ) → i < t.crtcs → names w.values (after w r) r.assigns (object_id kind.Crtc i) ≡ true → is_some (state_at d.crtcs i) ≡ true)
     → part (affected_below d.crtcs (named_by t w r) 4) ≡ set_where t k (is_affected t w.things w.values (after w r))
-affected-kind t w r d k part routed stand is there =
+affected-kind {t} {w} {r} {d} {k} {part} {routed} stand is there =
     affected-part part is.none is.both d.crtcs (named_by t w r) 4 (count_of t k) (affects t w r k)
-    (λ c h. part-of_crtc t w r d k part routed c stand is there)
+    (λ c h. part-of_crtc c stand is there)
     ∙ same_masks _ _ (count_of t k) (λ i h. any_crtc t
     (λ crtc. needs_modeset t w.things w.values (after w r) crtc && moves_on w.values (after w r) crtc (object_id k i))
     (few_objects t stand.at.device).crtcs)
@@ -213,8 +213,8 @@ pub affected-is : (t : Topology) (w : World) (r : Request) (d : Duplicates) → 
     → affected_below d.crtcs (named_by t w r) 4 ≡ affected_group t w r
 affected-is t w r d stand there =
     mask_is _ _ (crtcs-none d.crtcs (named_by t w r) 4)
-    (affected-kind t w r d kind.Plane (λ m. m.planes) (λ s. s.planes) stand (planes_part t) there)
-    (affected-kind t w r d kind.Conn (λ m. m.conns) (λ s. s.conns) stand (conns_part t) there)
+    (affected-kind stand (planes_part t) there)
+    (affected-kind stand (conns_part t) there)
   where
     mask_is : (a b : Mask) → a.crtcs ≡ b.crtcs → a.planes ≡ b.planes → a.conns ≡ b.conns → a ≡ b
     mask_is a b crtcs planes conns = λ i. record { crtcs = crtcs i; planes = planes i; conns = conns i }

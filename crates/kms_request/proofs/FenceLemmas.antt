@@ -47,11 +47,11 @@ same_object Conn l i index h less = of_each_kind (λ l. (object_id Conn i == obj
 same_object Enc l i index h less = absurd h
 
 -- an assignment that sets the property of an object of the kind
-pub tell_noted : (kind : Kind) (prop : ℕ) (number : Option Value → Option ℕ) (earlier : List Assign) (a : Assign)
+pub tell_noted : (kind : Kind) (prop : ℕ) (number : Option Value → Option ℕ) (earlier : List Assign) {a : Assign}
     (numbers : List (Option ℕ)) → IsSettable a
     → length numbers ≡ 16 → (same_kind a.kind kind && (prop_of a.prop == prop)) ≡ true → TellLast kind prop number earlier numbers
     → TellLast kind prop number (earlier ++ a ∷ []) (set numbers a.index (number (Some a.value)))
-tell_noted kind prop number earlier a numbers fits long sets tell index less =
+tell_noted kind prop number earlier {a} numbers fits long sets tell index less =
     let both = and_parts (same_kind a.kind kind) (prop_of a.prop == prop) sets in
     let same : (object_of a == object_id kind index)
     ≡ (a.index == index) = same_object a.kind kind a.index index fits.place less ∙ rw both.0 refl in
@@ -68,11 +68,11 @@ false_between true true z h = h
 false_between true false z h = refl
 
 -- an assignment that does not
-pub tell_passed : (kind : Kind) (prop : ℕ) (number : Option Value → Option ℕ) (earlier : List Assign) (a : Assign)
+pub tell_passed : (kind : Kind) (prop : ℕ) (number : Option Value → Option ℕ) (earlier : List Assign) {a : Assign}
     (numbers : List (Option ℕ)) → IsSettable a
     → (same_kind a.kind kind && (prop_of a.prop == prop)) ≡ false → TellLast kind prop number earlier numbers
     → TellLast kind prop number (earlier ++ a ∷ []) numbers
-tell_passed kind prop number earlier a numbers fits sets tell index less =
+tell_passed kind prop number earlier {a} numbers fits sets tell index less =
     let not_set : ((object_of a == object_id kind index) && (prop_of a.prop == prop))
     ≡ false = rw (same_object a.kind kind a.index index fits.place less)
     (false_between (same_kind a.kind kind) (a.index == index) (prop_of a.prop == prop) sets) in

@@ -49,9 +49,9 @@ none_marked n k = elim (cases_lt k n) [
 ]
 
 -- behind the last assignment
-pub sets_at_end : (f : ℕ → Look) (xs : List Assign) (sets : List Set) → sets ≡ [] → reverse sets ≡ last_sets f (drop (length xs) xs)
+pub sets_at_end : (f : ℕ → Look) (xs : List Assign) {sets : List Set} → sets ≡ [] → reverse sets ≡ last_sets f (drop (length xs) xs)
 unfolding last_sets
-sets_at_end f xs sets none = rw (none, drop_all (length xs) xs (omega arith)) refl
+sets_at_end f xs none = rw (none, drop_all (length xs) xs (omega arith)) refl
 
 pub marks_at_end : (xs : List Assign) (marks : List Bool) → TellTargets [] marks → TellTargets (drop (length xs) xs) marks
 marks_at_end xs marks tell =

@@ -70,19 +70,19 @@ record AreNumbers (plane : Both PlaneState → ℕ) (conn : Both ConnState → �
   planes : (index : ℕ) (both : Both PlaneState) → slice_get d.planes index ≡ Some (Some both) → plane both ≡ value (200 + index)
   conns : (index : ℕ) (both : Both ConnState) → slice_get d.conns index ≡ Some (Some both) → conn both ≡ value (300 + index)
 
-numbers_plane : (plane : Both PlaneState → ℕ) (conn : Both ConnState → ℕ) (value : ℕ → ℕ) (d : Duplicates) (index : ℕ)
+numbers_plane : {plane : Both PlaneState → ℕ} {conn : Both ConnState → ℕ} {value : ℕ → ℕ} {d : Duplicates} (index : ℕ)
     → AreNumbers plane conn value d → index < 16 → is_routed_duplicated d (200 + index) ≡ true → routed_number plane conn d (200 + index)
     ≡ value (200 + index)
-numbers_plane plane conn value d index numbers less duplicated =
+numbers_plane {plane} {value} {d} index numbers less duplicated =
     let is : is_id_of Plane (200 + index) ≡ true = inside Plane (200 + index) (omega arith) (omega arith) in
     let place : index_of (200 + index) ≡ index = index_of-object Plane index (omega arith) in
     let there : is_some (option_flatten (slice_get d.planes index)) ≡ true = rw (is, place) at duplicated in
     rw (is, place) (number_is plane (value (200 + index)) (slice_get d.planes index) there (numbers.planes index))
 
-numbers_conn : (plane : Both PlaneState → ℕ) (conn : Both ConnState → ℕ) (value : ℕ → ℕ) (d : Duplicates) (index : ℕ)
+numbers_conn : {plane : Both PlaneState → ℕ} {conn : Both ConnState → ℕ} {value : ℕ → ℕ} {d : Duplicates} (index : ℕ)
     → AreNumbers plane conn value d → index < 8 → is_routed_duplicated d (300 + index) ≡ true → routed_number plane conn d (300 + index)
     ≡ value (300 + index)
-numbers_conn plane conn value d index numbers less duplicated =
+numbers_conn {conn} {value} {d} index numbers less duplicated =
     let out : is_id_of Plane (300 + index) ≡ false = above Plane (300 + index) (omega arith) in
     let is : is_id_of Conn (300 + index) ≡ true = inside Conn (300 + index) (omega arith) (omega arith) in
     let place : index_of (300 + index) ≡ index = index_of-object Conn index (omega arith) in
@@ -99,13 +99,13 @@ old_none d index less = numbers_none (λ both. both.old.crtc) (λ both. both.old
 pub next_none : (d : Duplicates) (index : ℕ) → index < 4 → next_crtc d (100 + index) ≡ 0
 next_none d index less = numbers_none (λ both. both.new.crtc) (λ both. both.new.crtc) d index less
 
-numbers_routed : (plane : Both PlaneState → ℕ) (conn : Both ConnState → ℕ) (value : ℕ → ℕ) (d : Duplicates) (k : Kind) (i : ℕ)
+numbers_routed : {plane : Both PlaneState → ℕ} {conn : Both ConnState → ℕ} {value : ℕ → ℕ} {d : Duplicates} (k : Kind) (i : ℕ)
     → AreNumbers plane conn value d → is_routed k ≡ true → HasPlace k i → is_routed_duplicated d (object_id k i) ≡ true
     → routed_number plane conn d (object_id k i) ≡ value (object_id k i)
-numbers_routed plane conn value d Crtc i numbers routes placed duplicated = absurd (cc)
-numbers_routed plane conn value d Plane i numbers routes placed duplicated = numbers_plane plane conn value d i numbers placed duplicated
-numbers_routed plane conn value d Conn i numbers routes placed duplicated = numbers_conn plane conn value d i numbers placed duplicated
-numbers_routed plane conn value d Enc i numbers routes placed duplicated = absurd placed
+numbers_routed Crtc i numbers routes placed duplicated = absurd (cc)
+numbers_routed {plane} {conn} {value} {d} Plane i numbers routes placed duplicated = numbers_plane i numbers placed duplicated
+numbers_routed {plane} {conn} {value} {d} Conn i numbers routes placed duplicated = numbers_conn i numbers placed duplicated
+numbers_routed Enc i numbers routes placed duplicated = absurd placed
 
 -- the CRTCs of states that are those of some values
 are_numbers : (of_plane : Both PlaneState → PlaneState) (of_conn : Both ConnState → ConnState) (things : List worlds.Thing)
@@ -121,24 +121,25 @@ are_numbers of_plane of_conn things values d planes conns = record {
 }
 
 -- an object that is duplicated is on the CRTC that it was on before, and comes to be on the one that it is on after
-pub old_is : (t : Topology) (things : List worlds.Thing) (old : List Setting) (d : Duplicates) (k : Kind) (i : ℕ) → AgreesOld t things old d
+pub old_is : {t : Topology} {things : List worlds.Thing} {old : List Setting} {d : Duplicates} (k : Kind) (i : ℕ) → AgreesOld t things old d
     → is_routed k ≡ true → HasPlace k i → is_routed_duplicated d (object_id k i) ≡ true
     → old_crtc_id d (object_id k i) ≡ crtc_at old (object_id k i)
-old_is t things old d k i agrees = numbers_routed (λ both. both.old.crtc) (λ both. both.old.crtc) (crtc_at old) d k i
+old_is {things} {old} {d} k i agrees = numbers_routed k i
     (are_numbers (λ both. both.old) (λ both. both.old) things old d agrees.planes agrees.conns)
 
-pub next_is : (t : Topology) (things : List worlds.Thing) (new : List Setting) (d : Duplicates) (k : Kind) (i : ℕ)
+pub next_is : {t : Topology} {things : List worlds.Thing} {new : List Setting} {d : Duplicates} (k : Kind) (i : ℕ)
     → AgreesNew t things new d → is_routed k ≡ true → HasPlace k i → is_routed_duplicated d (object_id k i) ≡ true
     → next_crtc d (object_id k i) ≡ crtc_at new (object_id k i)
-next_is t things new d k i agrees = numbers_routed (λ both. both.new.crtc) (λ both. both.new.crtc) (crtc_at new) d k i
+next_is {things} {new} {d} k i agrees = numbers_routed k i
     (are_numbers (λ both. both.new) (λ both. both.new) things new d agrees.planes agrees.conns)
 
 -- only planes and connectors have an old CRTC
-old_routes : (d : Duplicates) (k : Kind) (i crtc : ℕ) → HasPlace k i → 0 < crtc → old_crtc_id d (object_id k i) ≡ crtc → is_routed k ≡ true
-old_routes d Crtc i crtc placed some is = absurd (omega (arith, old_none d i placed, is))
-old_routes d Plane i crtc placed some is = refl
-old_routes d Conn i crtc placed some is = refl
-old_routes d Enc i crtc placed some is = absurd placed
+old_routes : (d : Duplicates) (k : Kind) (i : ℕ) {crtc : ℕ} → HasPlace k i → 0 < crtc → old_crtc_id d (object_id k i) ≡ crtc → is_routed k ≡
+    true
+old_routes d Crtc i placed some is = absurd (omega (arith, old_none d i placed, is))
+old_routes d Plane i placed some is = refl
+old_routes d Conn i placed some is = refl
+old_routes d Enc i placed some is = absurd placed
 
 -- The new CRTC
 
@@ -157,14 +158,14 @@ no_crtc_set f prop v other = elim (cases_Bool (prop == FB_ID)) [
   ]
 ]
 
-crtc_set : (f : ℕ → Look) (prop : ℕ) (v : Value) → prop ≡ CRTC_ID → new_crtc_id (set_value f prop v) ≡ crtc_value v
-crtc_set f prop v is = rw is refl
+crtc_set : (f : ℕ → Look) {prop : ℕ} (v : Value) → prop ≡ CRTC_ID → new_crtc_id (set_value f prop v) ≡ crtc_value v
+crtc_set f v is = rw is refl
 
 -- a set that puts something on a CRTC is one of CRTC_ID
 sets_crtc : (f : ℕ → Look) (prop crtc : ℕ) (v : Value) → 0 < crtc → new_crtc_id (set_value f prop v) ≡ crtc → (prop ≡ CRTC_ID)
     × (crtc_value v ≡ crtc)
 sets_crtc f prop crtc v some is = elim (eqb_tells prop CRTC_ID) [
-  | inl same ↦ (same.1, sym (crtc_set f prop v same.1) ∙ is)
+  | inl same ↦ (same.1, sym (crtc_set f v same.1) ∙ is)
   | inr other ↦ absurd (omega (arith, no_crtc_set f prop v other.0, is))
 ]
 
@@ -192,8 +193,8 @@ module _ (t : Topology) (things : List worlds.Thing) (old : List Setting) (f : �
         | inl first ↦ elim (or_cases (object_of b == crtc) (old_crtc_id d (object_of b) == crtc) first) [
           | inl itself ↦ or_left (object_of b == crtc) _ itself
           | inr was ↦ (let is : old_crtc_id d (object_of b) ≡ crtc = eqb-true (old_crtc_id d (object_of b)) crtc was in
-              let routes = old_routes d b.kind b.index crtc fits.place some is in
-              let before : crtc_at old (object_of b) ≡ crtc = sym (old_is t things old d b.kind b.index agrees routes fits.place duplicated)
+              let routes = old_routes d b.kind b.index fits.place some is in
+              let before : crtc_at old (object_of b) ≡ crtc = sym (old_is b.kind b.index agrees routes fits.place duplicated)
               ∙ is in
               or_right (object_of b == crtc) _ (and_from (is_routed b.kind) _ routes
               (or_left (crtc_at old (object_of b) == crtc) _ (eq-eqb (crtc_at old (object_of b)) crtc before))))
@@ -232,13 +233,13 @@ module _ (t : Topology) (things : List worlds.Thing) (old : List Setting) (f : �
     by_set b crtc listed named = list_any-has (λ s. set_names d s crtc) (last_sets f assigns) (set_of f b) listed named
 
     -- a plane or a connector that is set, and was on a CRTC
-    by_old : (a b : Assign) (crtc : ℕ) → IsIn a assigns → object_of a ≡ object_of b → IsIn (set_of f b) (last_sets f assigns)
+    by_old : (a b : Assign) {crtc : ℕ} → IsIn a assigns → object_of a ≡ object_of b → IsIn (set_of f b) (last_sets f assigns)
         → is_routed a.kind ≡ true → crtc_at old (object_of a) ≡ crtc → list_any (λ s. set_names d s crtc) (last_sets f assigns) ≡ true
-    by_old a b crtc member same listed routes was =
+    by_old a b {crtc} member same listed routes was =
         let fits = all_in IsSettable assigns a settable member in
         let there : is_routed_duplicated d (object_of a)
         ≡ true = subst (λ o. is_routed_duplicated d o ≡ true) (sym same) (listed_duplicated b listed) in
-        let is : old_crtc_id d (object_of b) ≡ crtc = ap (old_crtc_id d) (sym same) ∙ old_is t things old d a.kind a.index agrees routes
+        let is : old_crtc_id d (object_of b) ≡ crtc = ap (old_crtc_id d) (sym same) ∙ old_is a.kind a.index agrees routes
         fits.place there ∙ was in
         by_set b crtc listed (or_left ((object_of b == crtc) || (old_crtc_id d (object_of b) == crtc)) _
         (or_right (object_of b == crtc) _ (eq-eqb (old_crtc_id d (object_of b)) crtc is)))
@@ -256,7 +257,7 @@ module _ (t : Topology) (things : List worlds.Thing) (old : List Setting) (f : �
         let both : Some v ≡ Some b.item.value = sym last ∙ own in
         let same : v ≡ b.item.value = cc in
         let goes : new_crtc_id (set_value f (prop_of b.item.prop) b.item.value)
-        ≡ crtc = crtc_set f (prop_of b.item.prop) b.item.value prop_same ∙ ap crtc_value (sym same) ∙ is in
+        ≡ crtc = crtc_set f b.item.value prop_same ∙ ap crtc_value (sym same) ∙ is in
         by_set b.item crtc b.is.listed (or_right ((object_of b.item == crtc) || (old_crtc_id d (object_of b.item) == crtc)) _
         (eq-eqb (new_crtc_id (set_value f (prop_of b.item.prop) b.item.value)) crtc goes))
 
@@ -272,12 +273,12 @@ module _ (t : Topology) (things : List worlds.Thing) (old : List Setting) (f : �
               (or_left (object_of b.item == crtc) _ (subst (λ o. (o == crtc) ≡ true) b.same.object itself)))
           | inr moves ↦ (let parts = and_parts (is_routed a.kind) (moves_on old (apply things old assigns) crtc (object_of a)) moves in
               elim (or_cases (crtc_at old (object_of a) == crtc) (crtc_at (apply things old assigns) (object_of a) == crtc) parts.1) [
-                | inl was ↦ by_old a b.item crtc found.member b.same.object b.is.listed parts.0
+                | inl was ↦ by_old a b.item found.member b.same.object b.is.listed parts.0
                     (eqb-true (crtc_at old (object_of a)) crtc was)
                 | inr becomes ↦ (let is : crtc_at (apply things old assigns) (object_of a)
                     ≡ crtc = eqb-true (crtc_at (apply things old assigns) (object_of a)) crtc becomes in
                     elim ((crtc_after t f things old assigns (object_of a) allowed).by) [
-                      | inl kept ↦ by_old a b.item crtc found.member b.same.object b.is.listed parts.0 (sym kept.1 ∙ is)
+                      | inl kept ↦ by_old a b.item found.member b.same.object b.is.listed parts.0 (sym kept.1 ∙ is)
                       | inr set ↦ by_new (object_of a) crtc set.0 set.1 (sym set.2 ∙ is)
                     ])
               ])
@@ -336,26 +337,26 @@ shorter test n (suc m) low none = elim (cases_eq n (suc m)) [
 ]
 
 -- a set of CRTCs that are those that a request names
-pub crtcs_named : (t : Topology) (things : List worlds.Thing) (old : List Setting) (f : ℕ → Look) (assigns : List Assign) (test : ℕ → Bool)
-    (mask : ℕ) → HasFew t → ArePlainHeld t things old → All (IsAllowed t f) assigns → All IsSettable assigns
+pub crtcs_named : {t : Topology} {things : List worlds.Thing} {old : List Setting} (f : ℕ → Look) (assigns : List Assign) {test : ℕ → Bool}
+    {mask : ℕ} → HasFew t → ArePlainHeld t things old → All (IsAllowed t f) assigns → All IsSettable assigns
     → AreCrtcs test mask → ((crtc : ℕ) → 0 < crtc → test crtc ≡ names old (apply things old assigns) assigns crtc) → mask
     ≡ named_set t old (apply things old assigns) assigns
-crtcs_named t things old f assigns test mask few held allowed settable are same =
+crtcs_named {t} {things} {old} f assigns {mask} few held allowed settable are same =
     let named : ℕ → Bool = λ index. names old (apply things old assigns) assigns (100 + index) in
     mask_from mask named 4 are.below (λ index less. are.bits index less ∙ same (100 + index) (omega arith))
     ∙ shorter named t.crtcs 4 few.crtcs (λ index low high. none_outside t things old f assigns index held allowed settable low high)
 
 -- the CRTCs that the sets name are those that the request names
-pub named_is : (t : Topology) (w : World) (f : ℕ → Look) (r : Request) (resolved : Resolved) (d : Duplicates) (mask : ℕ)
+pub named_is : {t : Topology} {w : World} {f : ℕ → Look} {r : Request} {resolved : Resolved} {d : Duplicates} {mask : ℕ}
     → Covers t w f r resolved d
     → AreCrtcs (λ crtc. list_any (λ s. set_names d s crtc) resolved.sets) mask → mask ≡ named_by t w r
-named_is t w f r resolved d mask covers are =
+named_is {t} {w} {f} {r} {resolved} {d} {mask} covers are =
     let allowed = accepted_allowed t f r covers.asks.accepted in
     let settable = all_settable t f r.assigns covers.limits allowed in
     let Duplicated : List Set → Type 0 = λ sets. All (λ s. is_routed_duplicated d s.object.0 ≡ true) sets in
     let duplicated = subst Duplicated covers.asks.sets covers.duplicated in
     let NamedBy : List Set → ℕ → Bool = λ sets crtc. list_any (λ s. set_names d s crtc) sets in
-    crtcs_named t w.things w.values f r.assigns (NamedBy resolved.sets) mask (has_few t covers.limits)
+    crtcs_named f r.assigns (has_few t covers.limits)
     (plain_held-from t w.things w.values covers.sound.held) allowed settable are
     (λ crtc some. ap (λ (sets : List Set). NamedBy sets crtc) covers.asks.sets ∙ same_names t w.things w.values f r.assigns d allowed
     settable covers.old duplicated crtc some)

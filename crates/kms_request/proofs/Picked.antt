@@ -16,9 +16,9 @@ module _ {A : Type 0} (p : A → Bool) where
     | inr out ↦ rw out (any_picked q xs)
   ]
 
-  pub picked_crtcs : (names : A → ℕ → Bool) (xs : List A) (mask : ℕ) → AreCrtcs (λ crtc. list_any (λ a. p a && names a crtc) xs) mask
+  pub picked_crtcs : (names : A → ℕ → Bool) (xs : List A) {mask : ℕ} → AreCrtcs (λ crtc. list_any (λ a. p a && names a crtc) xs) mask
       → AreCrtcs (λ crtc. list_any (λ a. names a crtc) (filter p xs)) mask
-  picked_crtcs names xs mask are = record {
+  picked_crtcs names xs are = record {
     below = are.below;
     bits = λ index low. are.bits index low ∙ any_picked
         (λ a. names a (100 + index)) xs;

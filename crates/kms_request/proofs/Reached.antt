@@ -49,11 +49,11 @@ use Rattle.kms_request.proofs.WholeLemmas.{named_between-is}
 
 -- What is touched by the states before and after a request
 
-pub spans-touched : (t : Topology) (w : World) (r : Request) (d : Duplicates) (named : ℕ) (touched : Mask) → StandBetween t w r d → named
+pub spans-touched : {t : Topology} {w : World} {r : Request} {d : Duplicates} {named : ℕ} {touched : Mask} → StandBetween t w r d → named
     ≡ named_by t w r
     → touched ≡ union (union (objects_assigned r.assigns) (record { crtcs = named; planes = 0; conns = 0 }))
     (affected_below d.crtcs named 4) → touched ≡ touched_by t w r
-spans-touched t w r d named touched stand named_is touched_is =
+spans-touched {t} {w} {r} {d} {named} {touched} stand named_is touched_is =
     let at : IsRequestAt t w r = record { device = stand.device; sound = stand.sound; early = stand.early } in
     let stands : StandAt t w r d = record { at = at; old = stand.old; new = stand.new } in
     let set : objects_assigned r.assigns ≡ set_group t r = objects_assigned-is t (look_up w) r stand.device stand.early in
@@ -100,8 +100,8 @@ value-unfenced t f a is = by_prop (prop_of a.prop) is where
     | inr other ↦ rw other is
   ]
 
-allowed-unfenced : (t : Topology) (f : ℕ → Look) (a : Assign) → IsAllowed t f a → IsAllowed t f (unfenced a)
-allowed-unfenced t f a allowed = record {
+allowed-unfenced : {t : Topology} {f : ℕ → Look} {a : Assign} → IsAllowed t f a → IsAllowed t f (unfenced a)
+allowed-unfenced {t} {f} {a} allowed = record {
   exists = allowed.exists;
   has = allowed.has;
   mutable = allowed.mutable;
@@ -123,7 +123,7 @@ unfolding assigns_refusal assign_refusal
 none-unfenced t f earlier [] before each = refl
 none-unfenced t f earlier (a ∷ xs) before each =
     or_else-nones _ (assigns_refusal t f (unfenced a ∷ earlier) (map unfenced xs))
-    (or_else-nones (own_refusal t f (unfenced a)) _ (allowed-own t f (unfenced a) (allowed-unfenced t f a (each a (inl refl))))
+    (or_else-nones (own_refusal t f (unfenced a)) _ (allowed-own (allowed-unfenced (each a (inl refl))))
     (none-number_if 8 (is_second_fence earlier (unfenced a))
     (and_right (prop_of a.prop == IN_FENCE_FD) (list_any (names_fence (object_of a)) earlier) (before (object_of a)))))
     (none-unfenced t f (unfenced a ∷ earlier) xs (λ o. rw (no_fence o a) (before o)) (λ b is. each b (inr is)))
@@ -175,15 +175,15 @@ touches_at : (t : Topology) (w : World) (r : Request) (k : Kind) (i : ℕ) → i
 unfolding touches
 touches_at t w r k i few = ap (λ j. touches_of_kind j t w r (object_id k i)) (kind_of-object k i few)
 
-few_at : (t : Topology) (k : Kind) (i : ℕ) → IsDevice t → i < count_of t k → i < 100
-few_at t k i device less = (let few = few_of t k (few_objects t device) in omega (arith, few, less))
+few_at : {t : Topology} (k : Kind) (i : ℕ) → IsDevice t → i < count_of t k → i < 100
+few_at {t} k i device less = (let few = few_of t k (few_objects t device) in omega (arith, few, less))
 
 touched-same : (t : Topology) (w u : World) (r s : Request) → IsDevice t
     → ((k : Kind) (i : ℕ) → i < count_of t k → touches t w r (object_id k i) ≡ touches t u s (object_id k i)) → touched_by t w r
     ≡ touched_by t u s
 touched-same t w u r s device each = λ j. record { crtcs = crtcs j; planes = planes j; conns = conns j } where
   at : (k : Kind) (i : ℕ) → i < count_of t k → touches_of_kind k t w r (object_id k i) ≡ touches_of_kind k t u s (object_id k i)
-  at k i less = sym (touches_at t w r k i (few_at t k i device less)) ∙ each k i less ∙ touches_at t u s k i (few_at t k i device less)
+  at k i less = sym (touches_at t w r k i (few_at k i device less)) ∙ each k i less ∙ touches_at t u s k i (few_at k i device less)
 
   crtcs : (touched_by t w r).crtcs ≡ (touched_by t u s).crtcs
   crtcs = same_masks _ _ (count_of t Crtc) (at Crtc)
@@ -209,7 +209,7 @@ pub touched-member : (t : Topology) (w : World) (r : Request) (k : Kind) (i : �
     → is_member (touched_by t w r) k i ≡ touches t w r (object_id k i)
 touched-member t w r k i device there =
     let less : i < count_of t k = ltb-true i (count_of t k) there in
-    sym (touches_at t w r k i (few_at t k i device less) ∙ member-touched t w r k i less)
+    sym (touches_at t w r k i (few_at k i device less) ∙ member-touched t w r k i less)
 
 pub reached-member : (t : Topology) (w : World) (r : Request) (k : Kind) (i : ℕ) (reached : Mask) → IsDevice t → exists t k i ≡ true
     → reached ≡ reached_by t w r → is_member reached k i ≡ reaches t w r (object_id k i)
@@ -219,8 +219,8 @@ reached-member t w r k i reached device there is = ap (λ (m : Mask). is_member 
 
 -- The present states are those of the world in which all things are open.
 
-pub present-open : (t : Topology) (w : World) (d : Duplicates) → ArePresent t w d → ArePresent t (all_open w) d
-present-open t w d present =
+pub present-open : {t : Topology} {w : World} {d : Duplicates} → ArePresent t w d → ArePresent t (all_open w) d
+present-open {t} {w} {d} present =
     let opened : AgreesOld t (all_open w).things (all_open w).values d = agrees-open t w.things w.values d present.old in
     record {
       device = present.device;
@@ -265,7 +265,7 @@ module _ (t : Topology) (w : World) (f : ℕ → Look) (r : Request) (d after : 
 
   stands : StandBetween t (all_open w) quiet after
   stands =
-      let opened = present-open t w d present in
+      let opened = present-open present in
       record {
         device = present.device;
         sound = opened.sound;
@@ -273,7 +273,7 @@ module _ (t : Topology) (w : World) (f : ℕ → Look) (r : Request) (d after : 
         old = olds (all_open w).things (all_open w).values opened.old;
         new = subst (λ (values : List Setting). AgreesNew t (all_open w).things values after)
             (sym (apply-unfenced (all_open w).things (all_open w).values (allowed_by t f r.assigns))) new;
-        all = all_after t d after same present.all;
+        all = all_after same present.all;
       }
 
   touches-quiet : (o : ℕ) → touches t (all_open w) quiet o ≡ touches t w (record r { assigns = allowed_by t f r.assigns }) o
@@ -297,13 +297,13 @@ module _ (t : Topology) (w : World) (f : ℕ → Look) (r : Request) (d after : 
         bits = λ i low. own.bits i low ∙ sym
             (any-unfenced (λ a. is_named_between after a (object_id Crtc i)) (allowed_by t f r.assigns) (λ a. refl));
       } in
-      let named_is = named_between-is t (all_open w) quiet after named stands quiet_named in
+      let named_is = named_between-is stands quiet_named in
       let set : objects_assigned (allowed_by t f items)
       ≡ objects_assigned quiet.assigns = ap (λ (xs : List Assign). objects_assigned (allowed_by t f xs)) same ∙ sym
       (objects-unfenced (allowed_by t f r.assigns)) in
       let touched_now = touched_is ∙ ap (λ m. union (union m (record { crtcs = named; planes = 0; conns = 0 }))
       (affected_below after.crtcs named 4)) set in
-      spans-touched t (all_open w) quiet after named touched stands named_is touched_now
+      spans-touched stands named_is touched_now
       ∙ touched-same t (all_open w) w quiet (record r { assigns = allowed_by t f r.assigns }) present.device
       (λ k i less. touches-quiet (object_id k i))
       ∙ ap (λ g. touched_by t w (record r { assigns = allowed_by t g r.assigns })) looks

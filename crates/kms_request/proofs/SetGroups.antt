@@ -82,25 +82,25 @@ unset-beyond t f r k i device accepted beyond few =
         omega arith
 
 -- the objects of a kind that assignments set, and that sets do
-assigned_of-is : (t : Topology) (f : ℕ → Look) (r : Request) (k : Kind) → IsDevice t → early_refusal t f r ≡ None
+assigned_of-is : {t : Topology} (f : ℕ → Look) (r : Request) (k : Kind) → IsDevice t → early_refusal t f r ≡ None
     → count_of t k ≤ most_of k → most_of k ≤ 16 → assigned_of r.assigns k ≡ set_where t k (sets r.assigns)
-assigned_of-is t f r k device accepted few wide =
+assigned_of-is {t} f r k device accepted few wide =
     shorter (λ i. sets r.assigns (object_id k i)) (count_of t k) (most_of k) few
     (λ i low high. unset-beyond t f r k i device accepted low (omega arith))
 
-set_of_kind-is : (t : Topology) (f : ℕ → Look) (r : Request) (k : Kind) → IsDevice t → early_refusal t f r ≡ None
+set_of_kind-is : {t : Topology} (f : ℕ → Look) (r : Request) (k : Kind) → IsDevice t → early_refusal t f r ≡ None
     → count_of t k ≤ most_of k → most_of k ≤ 16 → set_of_kind (last_sets f r.assigns) k ≡ set_where t k (sets r.assigns)
-set_of_kind-is t f r k device accepted few wide =
-    same_masks _ _ (most_of k) (λ i h. sets-last f r.assigns (object_id k i)) ∙ assigned_of-is t f r k device accepted few wide
+set_of_kind-is {t} f r k device accepted few wide =
+    same_masks _ _ (most_of k) (λ i h. sets-last f r.assigns (object_id k i)) ∙ assigned_of-is f r k device accepted few wide
 
 pub objects_assigned-is : (t : Topology) (f : ℕ → Look) (r : Request) → IsDevice t → early_refusal t f r ≡ None
     → objects_assigned r.assigns ≡ set_group t r
 objects_assigned-is t f r device accepted =
     let few = few_objects t device in
     rw (
-      assigned_of-is t f r kind.Crtc device accepted few.crtcs (omega arith),
-      assigned_of-is t f r kind.Plane device accepted few.planes (omega arith),
-      assigned_of-is t f r kind.Conn device accepted few.conns (omega arith),
+      assigned_of-is f r kind.Crtc device accepted few.crtcs (omega arith),
+      assigned_of-is f r kind.Plane device accepted few.planes (omega arith),
+      assigned_of-is f r kind.Conn device accepted few.conns (omega arith),
     ) refl
 
 pub objects_set-is : (t : Topology) (f : ℕ → Look) (r : Request) (resolved : Resolved) → IsDevice t
@@ -109,7 +109,7 @@ objects_set-is t f r resolved device asks =
     let few = few_objects t device in
     rw (
       asks.sets,
-      set_of_kind-is t f r kind.Crtc device asks.accepted few.crtcs (omega arith),
-      set_of_kind-is t f r kind.Plane device asks.accepted few.planes (omega arith),
-      set_of_kind-is t f r kind.Conn device asks.accepted few.conns (omega arith),
+      set_of_kind-is f r kind.Crtc device asks.accepted few.crtcs (omega arith),
+      set_of_kind-is f r kind.Plane device asks.accepted few.planes (omega arith),
+      set_of_kind-is f r kind.Conn device asks.accepted few.conns (omega arith),
     ) refl

@@ -54,19 +54,19 @@ all_bits : (index : ℕ) → index < 32 → has_bit (2 ^ 32 - 1) index ≡ true
 all_bits index less = has_bit-from (2 ^ 32 - 1) index true (bit_at_ones 32 index less)
 
 -- each object of a device that is all duplicated is duplicated
-duplicated_from : (t : Topology) (d : Duplicates) (k : Kind) (i : ℕ) → AreAllDuplicated t d → is_routed k ≡ true → HasPlace k i → i
+duplicated_from : {t : Topology} {d : Duplicates} (k : Kind) (i : ℕ) → AreAllDuplicated t d → is_routed k ≡ true → HasPlace k i → i
     < count_of t k → is_routed_duplicated d (object_id k i) ≡ true
-duplicated_from t d Crtc i all routes placed there = absurd (cc)
-duplicated_from t d Plane i all routes placed there =
+duplicated_from Crtc i all routes placed there = absurd (cc)
+duplicated_from Plane i all routes placed there =
     let is : is_id_of Plane (200 + i) ≡ true = inside Plane (200 + i) (omega arith) (omega arith) in
     let place : index_of (200 + i) ≡ i = index_of-object Plane i (omega arith) in
     rw (is, place) (all.planes i there)
-duplicated_from t d Conn i all routes placed there =
+duplicated_from Conn i all routes placed there =
     let out : is_id_of Plane (300 + i) ≡ false = above Plane (300 + i) (omega arith) in
     let is : is_id_of Conn (300 + i) ≡ true = inside Conn (300 + i) (omega arith) (omega arith) in
     let place : index_of (300 + i) ≡ i = index_of-object Conn i (omega arith) in
     rw (out, is, place) (all.conns i there)
-duplicated_from t d Enc i all routes placed there = absurd placed
+duplicated_from Enc i all routes placed there = absurd placed
 
 or_false : (a : Bool) → ((a || false) || false) ≡ (a || false)
 or_false true = refl
@@ -79,8 +79,8 @@ module _ (t : Topology) (things : List worlds.Thing) (old new : List Setting) (d
       (((object_id k i == crtc) || (old_crtc_id d (object_id k i) == crtc)) || (next_crtc d (object_id k i) == crtc))
       ≡ ((object_id k i == crtc) || (is_routed k && moves_on old new crtc (object_id k i)))
   named_routed k i crtc routes placed there =
-      let known = duplicated_from t d k i all routes placed there in
-      rw (old_is t things old d k i before routes placed known, next_is t things new d k i after routes placed known, routes)
+      let known = duplicated_from k i all routes placed there in
+      rw (old_is k i before routes placed known, next_is k i after routes placed known, routes)
       (or-assoc (object_id k i == crtc) (crtc_at old (object_id k i) == crtc) (crtc_at new (object_id k i) == crtc))
 
   named_itself : (i crtc : ℕ) → HasPlace Crtc i → 0 < crtc →
@@ -108,14 +108,14 @@ settable_between t w r d stand = all_settable t (look_up w) r.assigns (limits_of
     (accepted_allowed t (look_up w) r stand.early)
 
 -- the CRTCs that the states say are named
-pub named_between-is : (t : Topology) (w : World) (r : Request) (d : Duplicates) (mask : ℕ) → StandBetween t w r d
+pub named_between-is : {t : Topology} {w : World} {r : Request} {d : Duplicates} {mask : ℕ} → StandBetween t w r d
     → AreCrtcs (λ crtc. list_any (λ a. is_named_between d a crtc) r.assigns) mask
     → mask ≡ named_by t w r
-named_between-is t w r d mask stand are =
+named_between-is {t} {w} {r} {d} {mask} stand are =
     let new : List Setting = after w r in
     let allowed = accepted_allowed t (look_up w) r stand.early in
     let settable = settable_between t w r d stand in
-    crtcs_named t w.things w.values (look_up w) r.assigns (λ crtc. list_any (λ a. is_named_between d a crtc) r.assigns) mask
+    crtcs_named (look_up w) r.assigns
     (has_few t (limits_of t stand.device)) (plain_held-from t w.things w.values stand.sound.held) allowed settable are
     (λ crtc some. list_any-same (λ a. is_named_between d a crtc) (is_named_by w.values new crtc) r.assigns (λ a member.
     let fits = all_in IsSettable r.assigns a settable member in
@@ -144,9 +144,9 @@ in_range_if true None fits = tt
 in_range_if true (Some None) fits = tt
 in_range_if true (Some (Some both)) fits = fits both refl
 
-pub planes_in_range : (t : Topology) (w : World) (r : Request) (d : Duplicates) (planes : ℕ) → StandBetween t w r d
+pub planes_in_range : {t : Topology} {w : World} {r : Request} {d : Duplicates} (planes : ℕ) → StandBetween t w r d
     → ArePlanesInRange t d planes
-planes_in_range t w r d planes stand index there =
+planes_in_range {t} {w} {r} {d} planes stand index there =
     let new : List Setting = after w r in
     let held = plain-apply t w r stand.sound stand.early in
     in_range_if (has_bit planes index) (slice_get d.planes index) (λ both is.
@@ -154,9 +154,9 @@ planes_in_range t w r d planes stand index there =
     (plane_in_range t w.things new (object_id Plane index) held (ids-has t Plane index there)))
 
 -- all objects cover what the request touches
-all_cover : (t : Topology) (w : World) (r : Request) (d : Duplicates) → StandBetween t w r d
+all_cover : {t : Topology} {w : World} {r : Request} {d : Duplicates} → StandBetween t w r d
     → Covers t w r d (record { crtcs = 2 ^ 32 - 1; planes = 2 ^ 32 - 1; conns = 2 ^ 32 - 1 })
-all_cover t w r d stand =
+all_cover {t} stand =
     let few = has_few t (limits_of t stand.device) in
     record {
       planes = λ i there _. all_bits i (omega (arith, few.planes));
@@ -169,11 +169,11 @@ all_cover t w r d stand =
     }
 
 -- the refusals of the states of all objects are those of the request
-pub whole_is : (t : Topology) (w : World) (r : Request) (d : Duplicates) (named fenced : ℕ) → StandBetween t w r d
+pub whole_is : {t : Topology} {w : World} {r : Request} {d : Duplicates} {named fenced : ℕ} → StandBetween t w r d
     → named ≡ named_by t w r → fenced ≡ fenced_set t r
     → late_of_states t d (record { crtcs = 2 ^ 32 - 1; planes = 2 ^ 32 - 1; conns = 2 ^ 32 - 1 }) r.flags named fenced
     ≡ late_refusal t w.things w.values (after w r) r
-whole_is t w r d named fenced stand named_is fenced_is =
+whole_is {t} {w} {r} {d} stand named_is fenced_is =
     rw (named_is, fenced_is) (late_of_states-is t w r d (record { crtcs = 2 ^ 32 - 1; planes = 2 ^ 32 - 1; conns = 2 ^ 32 - 1 })
     (record { at = record { device = stand.device; sound = stand.sound; early = stand.early }; old = stand.old; new = stand.new })
-    (all_cover t w r d stand))
+    (all_cover stand))

@@ -1,5 +1,5 @@
 -- Requests on a device all of whose objects are duplicated.
-use Rattle.std.proofs.Common.{◌≡◌, ℕ, List, length, Option, None, refl, sym, ap, ◌∙◌}
+use Rattle.std.proofs.Common.{◌≡◌, ℕ, List, Option, None, refl, sym, ◌∙◌}
 use Rattle.std.specs.Prelude.{is_some}
 use Rattle.kms_model.specs.Device.Places.{state_at}
 use Rattle.kms_model.specs.declared.objects.Topology.{Topology}
@@ -17,23 +17,23 @@ use Rattle.kms_serial.specs.Device.{StandsInWorld}
 use Rattle.kms_things.specs.Present.{AreWhole, IsAfter, IsWhole}
 
 -- what is duplicated stays so
-whole_same : {S : Type 0} (count : ℕ) (before after : List (Option (Both S)))
+whole_same : {S : Type 0} {count : ℕ} {before : List (Option (Both S))} (after : List (Option (Both S)))
     → ((index : ℕ) → is_some (state_at after index) ≡ is_some (state_at before index)) → AreWhole count before → AreWhole count after
-whole_same count before after alike whole = record {
+whole_same after alike whole = record {
   there = λ index lt. alike index ∙ whole.there index lt;
   only = λ index some. whole.only index (sym (alike index) ∙ some);
 }
 
-whole_after : (t : Topology) (before after : Duplicates) → AreSameDuplicated before after → IsWhole t before → IsWhole t after
-whole_after t before after same whole = record {
-  crtcs = whole_same t.crtcs before.crtcs after.crtcs same.crtcs whole.crtcs;
-  planes = whole_same (length t.planes) before.planes after.planes same.planes whole.planes;
-  conns = whole_same (length t.conns) before.conns after.conns same.conns whole.conns;
+whole_after : {t : Topology} {before after : Duplicates} → AreSameDuplicated before after → IsWhole t before → IsWhole t after
+whole_after {t} {before} {after} same whole = record {
+  crtcs = whole_same after.crtcs same.crtcs whole.crtcs;
+  planes = whole_same after.planes same.planes whole.planes;
+  conns = whole_same after.conns same.conns whole.conns;
 }
 
 -- the states of a device are the present ones
-pub present : (t : Topology) (w : World) (d : Duplicates) → StandsInWorld t w d → ArePresent t w d
-present t w d stands = record {
+pub present : {t : Topology} {w : World} {d : Duplicates} → StandsInWorld t w d → ArePresent t w d
+present stands = record {
   device = stands.device;
   sound = stands.lawful.sound;
   numbered = stands.lawful.numbered;
@@ -47,14 +47,14 @@ present t w d stands = record {
   };
 }
 
-pub present_there : (t : Topology) (w : World) (d : Duplicates) → StandsInWorld t w d → ArePresentSomewhere look_up t (look_up w) d
-present_there t w d stands = record { world = w; present = present t w d stands; tells = λ label. refl }
+pub present_there : {t : Topology} {w : World} {d : Duplicates} → StandsInWorld t w d → ArePresentSomewhere look_up t (look_up w) d
+present_there {t} {w} {d} stands = record { world = w; present = present stands; tells = λ label. refl }
 
 -- those after a request for which no early refusal is due
 pub stands_after : (t : Topology) (w : World) (r : Request) (before after : Duplicates) → StandsInWorld t w before
     → AreSameDuplicated before after → StandBetween t w r after → IsAfter t w r after
 stands_after t w r before after stands same between = record {
-  whole = whole_after t before after same stands.present.whole;
+  whole = whole_after same stands.present.whole;
   old = between.old;
   new = between.new;
 }

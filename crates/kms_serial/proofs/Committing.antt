@@ -63,8 +63,8 @@ labels_are assigns labels crtcs long few tell =
 
 -- What is seen after out-fences
 
-alike_then : (xs ys zs : List Thing) (number : _) → IsSeenAlike xs ys number → IsSeenAlike ys zs number → IsSeenAlike xs zs number
-alike_then xs ys zs number first second = record {
+alike_then : {xs ys zs : List Thing} {number : _} → IsSeenAlike xs ys number → IsSeenAlike ys zs number → IsSeenAlike xs zs number
+alike_then first second = record {
   fb = first.fb ∙ second.fb;
   mode = first.mode ∙ second.mode;
   gamma = first.gamma ∙
@@ -81,24 +81,24 @@ record IsSeenWithin (t : Topology) (n : ℕ) (w after : World) : Type 0 where
 within_none : (t : Topology) (w : World) → IsSeenWithin t 0 w w
 within_none t w = record { values = refl; alike = (seen_same t w).alike; ids = omega arith; commits = refl }
 
-within_one : (t : Topology) (client : ℕ) (w : World) (label : Option ℕ) → IsLawful t w → IsSeenWithin t 1 w (make_out_fence client w label)
-within_one t client w None lawful = record { values = refl; alike = (seen_same t w).alike; ids = omega arith; commits = refl }
-within_one t client w (Some label) lawful = record {
+within_one : {t : Topology} (client : ℕ) {w : World} (label : Option ℕ) → IsLawful t w → IsSeenWithin t 1 w (make_out_fence client w label)
+within_one {t} client {w} None lawful = record { values = refl; alike = (seen_same t w).alike; ids = omega arith; commits = refl }
+within_one {t} client {w} (Some label) lawful = record {
   values = refl;
-  alike = (seen_made t w client label content.OutFence lawful).alike;
+  alike = (seen_made client label content.OutFence lawful).alike;
   ids = omega arith;
   commits = refl;
 }
 
-within_then : (t : Topology) (m n : ℕ) (u v w : World) → IsSeenWithin t m u v → IsSeenWithin t n v w → IsSeenWithin t (m + n) u w
-within_then t m n u v w first second =
+within_then : {t : Topology} {m n : ℕ} {u v w : World} → IsSeenWithin t m u v → IsSeenWithin t n v w → IsSeenWithin t (m + n) u w
+within_then {t} {u} {v} {w} first second =
     let further : AreSeenAlike t v.things w.things u.values = subst (λ vs. AreSeenAlike t v.things w.things vs) first.values second.alike in
     record {
       values = second.values ∙ first.values;
       alike = record {
-        planes = λ plane is. alike_then u.things v.things w.things _ (first.alike.planes plane is) (further.planes plane is);
-        crtcs = λ crtc is. alike_then u.things v.things w.things _ (first.alike.crtcs crtc is) (further.crtcs crtc is);
-        gammas = λ crtc is. alike_then u.things v.things w.things _ (first.alike.gammas crtc is) (further.gammas crtc is);
+        planes = λ plane is. alike_then (first.alike.planes plane is) (further.planes plane is);
+        crtcs = λ crtc is. alike_then (first.alike.crtcs crtc is) (further.crtcs crtc is);
+        gammas = λ crtc is. alike_then (first.alike.gammas crtc is) (further.gammas crtc is);
       };
       ids = omega (arith, first.ids, second.ids);
       commits = second.commits ∙ first.commits;
@@ -109,8 +109,8 @@ within_fences : (t : Topology) (client : ℕ) (assigns : List Assign) (w : World
 within_fences t client assigns w [] lawful = within_none t w
 within_fences t client assigns w (crtc ∷ crtcs) lawful =
     let one = make_out_fence client w (out_fence_label assigns crtc) in
-    let more = within_then t 1 (length crtcs) w one (make_out_fences client assigns one crtcs)
-    (within_one t client w (out_fence_label assigns crtc) lawful)
+    let more = within_then
+    (within_one client (out_fence_label assigns crtc) lawful)
     (within_fences t client assigns one crtcs (sound-out_fences t client assigns w (crtc ∷ []) lawful)) in
     record { values = more.values; alike = more.alike; ids = omega (arith, more.ids); commits = more.commits }
 
@@ -137,29 +137,29 @@ refuses t w client r n some = rw some refl
 length-range : (f : ℕ → ℕ) (a n : ℕ) → length (map f (range_with_len a n)) ≡ n
 length-range f a n = length-map-range_with_len f a n
 
-within_after : (t : Topology) (w : World) (client : ℕ) (r : Request) → IsLawful t w → verdict t w r ≡ None
+within_after : {t : Topology} {w : World} (client : ℕ) (r : Request) → IsLawful t w → verdict t w r ≡ None
     → IsSeenWithin t t.crtcs (record w { values = after w r; commits = w.commits + 1 }) (committed t w client r).world
-within_after t w client r lawful none =
+within_after {t} {w} client r lawful none =
     let before : World = record w { values = after w r; commits = w.commits + 1 } in
     subst (λ n. IsSeenWithin t n before (committed t w client r).world) (length-range (object_id kind.Crtc) 0 t.crtcs)
     (within_fences t client r.assigns before (map (object_id kind.Crtc) (range_with_len 0 t.crtcs))
     (sound-apply t w r (w.commits + 1) lawful none))
 
-pub grows_committed : (t : Topology) (w : World) (client : ℕ) (r : Request) → IsLawful t w → t.crtcs ≤ 4 → verdict t w r ≡ None
+pub grows_committed : {t : Topology} {w : World} (client : ℕ) (r : Request) → IsLawful t w → t.crtcs ≤ 4 → verdict t w r ≡ None
     → Grows w (committed t w client r).world
-grows_committed t w client r lawful few none = let within = within_after t w client r lawful none
+grows_committed {t} {w} client r lawful few none = let within = within_after client r lawful none
     in record { ids = omega (arith, within.ids); commits = omega (arith, within.commits) }
 
-pub values_committed : (t : Topology) (w : World) (client : ℕ) (r : Request) → IsLawful t w → verdict t w r ≡ None
+pub values_committed : {t : Topology} {w : World} (client : ℕ) (r : Request) → IsLawful t w → verdict t w r ≡ None
     → (committed t w client r).world.values ≡ after w r
-values_committed t w client r lawful none = (within_after t w client r lawful none).values
+values_committed {t} {w} client r lawful none = (within_after client r lawful none).values
 
 -- a device stands after a commit
-pub stands_committed : (t : Topology) (w : World) (d new : Duplicates) (client : ℕ) (r : Request) → StandsInWorld t w d → verdict t w r
+pub stands_committed : {t : Topology} {w : World} {d new : Duplicates} (client : ℕ) {r : Request} → StandsInWorld t w d → verdict t w r
     ≡ None → is_test r.flags ≡ false → IsAfter t w r new → StandsInWorld t (committed t w client r).world (swapped new)
-stands_committed t w d new client r stands none test is =
+stands_committed {t} {w} {new} client {r} stands none test is =
     let before : World = record w { values = after w r; commits = w.commits + 1 } in
-    let within = within_after t w client r stands.lawful none in
+    let within = within_after client r stands.lawful none in
     let executed = executes t w client r none test in
     let now = swapped_present t w r new is in
     record {

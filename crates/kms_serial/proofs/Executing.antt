@@ -40,23 +40,23 @@ seen_same t w = record {
   grows = record { ids = omega arith; commits = omega arith };
 }
 
-pub seen_made : (t : Topology) (w : World) (owner label : ℕ) (c : Content) → IsLawful t w → IsSeenAfter t w (make w owner label c).world
-seen_made t w owner label c lawful = record {
+pub seen_made : {t : Topology} {w : World} (owner label : ℕ) (c : Content) → IsLawful t w → IsSeenAfter t w (make w owner label c).world
+seen_made {t} {w} owner label c lawful = record {
   values = refl;
   alike = alike-push t w.things (record { label = label; id = w.next_id; owner = owner; content = c; is_open = true }) w.values
       lawful.numbered.things lawful.numbered.next lawful.sound.held;
   grows = record { ids = omega arith; commits = omega arith };
 }
 
-seen_made_unless : (t : Topology) (w : World) (owner label : ℕ) (c : Content) (o : Option ℕ) → IsLawful t w
+seen_made_unless : {t : Topology} {w : World} (owner label : ℕ) (c : Content) (o : Option ℕ) → IsLawful t w
     → IsSeenAfter t w (make_unless w owner label c o).world
-seen_made_unless t w owner label c None lawful = seen_made t w owner label c lawful
-seen_made_unless t w owner label c (Some n) lawful = seen_same t w
+seen_made_unless {t} {w} owner label c None lawful = seen_made owner label c lawful
+seen_made_unless {t} {w} owner label c (Some n) lawful = seen_same t w
 
-seen_added : (t : Topology) (w : World) (owner label : ℕ) (b : Option BufferInfo) → IsLawful t w
+seen_added : {t : Topology} {w : World} (owner label : ℕ) (b : Option BufferInfo) → IsLawful t w
     → IsSeenAfter t w (add_fb w owner label b).world
-seen_added t w owner label None lawful = seen_same t w
-seen_added t w owner label (Some b) lawful = seen_made t w owner label _ lawful
+seen_added {t} {w} owner label None lawful = seen_same t w
+seen_added {t} {w} owner label (Some b) lawful = seen_made owner label _ lawful
 
 seen_closed : (t : Topology) (w : World) (o : Option Thing) → IsSeenAfter t w (close w o)
 seen_closed t w None = seen_same t w
@@ -79,16 +79,16 @@ seen_signalled t w (Some n) = seen_same t w
 pub seen_executed : (t : Topology) (w : World) (client : ℕ) (c : Command) → IsLawful t w → IsNoRequest c
     → IsSeenAfter t w (execute t w client c).world
 unfolding execute
-seen_executed t w client (command.Buffer label width height format pattern) lawful other = seen_made_unless t w client label
+seen_executed t w client (command.Buffer label width height format pattern) lawful other = seen_made_unless client label
     (content.Buffer width height format pattern) (new_buffer_refusal w.things width height format) lawful
-seen_executed t w client (command.AddFb label buffer) lawful other = seen_added t w client label (buffer_of w.things client buffer) lawful
-seen_executed t w client (command.Mode label m) lawful other = seen_made t w client label (content.Mode m) lawful
-seen_executed t w client (command.Blob label bytes) lawful other = seen_made t w client label (content.Blob bytes) lawful
+seen_executed t w client (command.AddFb label buffer) lawful other = seen_added client label (buffer_of w.things client buffer) lawful
+seen_executed t w client (command.Mode label m) lawful other = seen_made client label (content.Mode m) lawful
+seen_executed t w client (command.Blob label bytes) lawful other = seen_made client label (content.Blob bytes) lawful
 seen_executed t w client (command.Destroy label) lawful other = seen_closed_unless t w (thing_labelled w.things label)
     (destroy_refusal client (thing_labelled w.things label))
 seen_executed t w client (command.CloseFb label) lawful other = seen_closed_unless t w (thing_labelled w.things label)
     (close_refusal client (thing_labelled w.things label))
-seen_executed t w client (command.Fence label) lawful other = seen_made t w client label content.Fence lawful
+seen_executed t w client (command.Fence label) lawful other = seen_made client label content.Fence lawful
 seen_executed t w client (command.Signal label) lawful other = seen_signalled t w (signal_refusal (thing_labelled w.things label))
 seen_executed t w client (command.Atomic r) lawful other = absurd other
 seen_executed t w client command.Wait lawful other = seen_same t w
@@ -116,8 +116,9 @@ stands_after t w after d client c (Ok r) other is same stands = stands_executed 
     (ap (λ (e : Executed). e.world) (is t)) stands
 stands_after t w after d client c (Err e) other is same stands = subst (λ (v : World). StandsInWorld t v d) (sym same) stands
 
-pub grows_after : (t : Topology) (w after : World) (client : ℕ) (c : Command) (R : Result Reply NoMemory) → IsNoRequest c → IsLawful t w
+pub grows_after : {t : Topology} {w : World} (after : World) (client : ℕ) (c : Command) (R : Result Reply NoMemory) → IsNoRequest c →
+    IsLawful t w
     → IfOk R (λ r. (u : Topology) → execute u w client c ≡ record { world = after; reply = r }) → OnOk R (Grows w after)
-grows_after t w after client c (Ok r) other lawful is = subst (λ (v : World). Grows w v) (ap (λ (e : Executed). e.world) (is t))
+grows_after {t} {w} after client c (Ok r) other lawful is = subst (λ (v : World). Grows w v) (ap (λ (e : Executed). e.world) (is t))
     (seen_executed t w client c lawful other).grows
-grows_after t w after client c (Err e) other lawful is = tt
+grows_after after client c (Err e) other lawful is = tt

@@ -57,8 +57,8 @@ own-id things id (content.Blob bytes) framed some = absurd cc
 own-id things id content.Fence framed some = absurd cc
 own-id things id content.OutFence framed some = absurd cc
 
-no-zero : (things : List Thing) (t : Thing) (z : ℤ) → AreNumbered 1000 things → thing_numbered things z ≡ Some t → z ≡ pos 0 → ⊥
-no-zero things t z numbered at zero_ =
+no-zero : (things : List Thing) {t : Thing} {z : ℤ} → AreNumbered 1000 things → thing_numbered things z ≡ Some t → z ≡ pos 0 → ⊥
+no-zero things {t} {z} numbered at zero_ =
     let within = ids-numbered 1000 things t numbered (find-in (λ u. int_eq (pos u.id) z) things t at) in
     let e : pos t.id ≡ pos 0 = matches things z t at ∙ zero_ in
     let same : t.id ≡ 0 = cc in
@@ -74,7 +74,7 @@ number-of things z None numbered framed at held =
 number-of things z (Some t) numbered framed at held =
     let there = find-in (λ u. int_eq (pos u.id) z) things t at in
     elim (or_cases (int_eq z (pos 0)) (is_some (framebuffer_in t.content)) held) [
-      | inl zero_ ↦ absurd (no-zero things t z numbered at ((Decides-int_eq z (pos 0)).0 zero_))
+      | inl zero_ ↦ absurd (no-zero things numbered at ((Decides-int_eq z (pos 0)).0 zero_))
       | inr some ↦ ap pos (own-id things t.id t.content (in-things (λ u. FramesIn things u.id u.content) things t framed there) some) ∙
           matches things z t at
     ]
@@ -96,13 +96,13 @@ fb_id-is t w index lawful framed within =
     (ids-has t kind.Plane index within)))
 
 -- the same of a state that is duplicated
-pub fb_of_state : (t : Topology) (w : World) (d : Duplicates) (index : ℕ) (o : Option (Both PlaneState)) → StandsInWorld t w d → index
+pub fb_of_state : {t : Topology} {w : World} {d : Duplicates} (index : ℕ) (o : Option (Both PlaneState)) → StandsInWorld t w d → index
     < length t.planes
     → state_at d.planes index ≡ o → pos (framebuffer_id (option_map (λ b. b.new) o)) ≡ value w.values (object_id kind.Plane index) FB_ID
-fb_of_state t w d index None stands within is =
+fb_of_state {d} index None stands within is =
     absurd (let some = stands.present.whole.planes.there index within in let none : is_some (state_at d.planes index) ≡ false = rw is refl
     in cc)
-fb_of_state t w d index (Some both) stands within is =
+fb_of_state {t} {w} {d} index (Some both) stands within is =
     let new = stands.present.new.planes index both (flatten-some (slice_get d.planes index) both is) in
     ap (λ (s : PlaneState). pos (id_or_zero s.fb)) new ∙ fb_id-is t w index stands.lawful stands.framed within
 

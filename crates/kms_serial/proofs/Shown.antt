@@ -24,19 +24,16 @@ use Rattle.kms_picture.specs.Covered.{are_placeable, is_placeable, is_near_rect,
 use Rattle.kms_picture.proofs.FromSound.{near-dst}
 use Rattle.kms_serial.specs.Device.{StandsInWorld}
 
-le-int_le : (a b : ℤ) → a ≤ℤ b → int_le a b ≡ true
-le-int_le a b le = grind (arith, nat_tests, ints)
-
 above_zero : (z : ℤ) → pos 0 ≤ℤ z → int_le (negsuc 2147483647) z ≡ true
 above_zero (pos n) le = refl
 above_zero (negsuc n) le = absurd (omega (arith, ints, le))
 
 -- a plane of a device that stands is ready
-ready_plane : (t : Topology) (w : World) (d : Duplicates) (index : ℕ) (o : Option (Both PlaneState)) → StandsInWorld t w d
+ready_plane : {t : Topology} {w : World} {d : Duplicates} (index : ℕ) (o : Option (Both PlaneState)) → StandsInWorld t w d
     → state_at d.planes index ≡ o → index < length t.planes → is_near_plane o ≡ true
-ready_plane t w d index None stands is lt = absurd
+ready_plane {d} index None stands is lt = absurd
     (let some = stands.present.whole.planes.there index lt in let none : is_some (state_at d.planes index) ≡ false = rw is refl in cc)
-ready_plane t w d index (Some both) stands is lt =
+ready_plane {t} {w} {d} index (Some both) stands is lt =
     let at = flatten-some (slice_get d.planes index) both is in
     let new : both.new ≡ plane_at w.things w.values (object_id kind.Plane index) = stands.present.new.planes index both at in
     subst (λ s. is_near_rect s.dst ≡ true) (sym new)
@@ -49,20 +46,20 @@ within t w crtc index has =
     (sym (has_bit-mask_below (λ i. crtc_at w.values (object_id kind.Plane i) == crtc) (length t.planes) index) ∙ has) in
     grind (arith, nat_tests, parts.0)
 
-covered_crtc : (t : Topology) (w : World) (d : Duplicates) (crtc : ℕ) (o : Option (Both CrtcState)) → StandsInWorld t w d
+covered_crtc : {t : Topology} {w : World} {d : Duplicates} (crtc : ℕ) (o : Option (Both CrtcState)) → StandsInWorld t w d
     → state_at d.crtcs crtc ≡ o → crtc < t.crtcs → are_placeable d.planes o ≡ true
-covered_crtc t w d crtc None stands is lt = absurd
+covered_crtc {d} crtc None stands is lt = absurd
     (let some = stands.present.whole.crtcs.there crtc lt in let none : is_some (state_at d.crtcs crtc) ≡ false = rw is refl in cc)
-covered_crtc t w d crtc (Some both) stands is lt =
+covered_crtc {t} {w} {d} crtc (Some both) stands is lt =
     let at = flatten-some (slice_get d.crtcs crtc) both is in
     let planes : both.new.planes ≡ on_crtc t w.values (object_id kind.Crtc crtc) kind.Plane = ap (λ (s : CrtcState). s.planes)
     (stands.present.new.crtcs crtc both at) in
     list_all-from (is_placeable d.planes both.new.planes) 0 16
     (λ i. implied_from (has_bit both.new.planes i) (is_near_plane (state_at d.planes i))
-    (λ has. ready_plane t w d i (state_at d.planes i) stands refl
+    (λ has. ready_plane i (state_at d.planes i) stands refl
     (within t w (object_id kind.Crtc crtc) i (sym (ap (λ m. has_bit m i) planes) ∙ has))))
 
 -- the picture of each CRTC of a device that stands can be told
-pub may_picture-stands : (t : Topology) (w : World) (d : Duplicates) (crtc : ℕ) → StandsInWorld t w d → crtc < t.crtcs → may_picture d crtc
+pub may_picture-stands : {t : Topology} {w : World} {d : Duplicates} (crtc : ℕ) → StandsInWorld t w d → crtc < t.crtcs → may_picture d crtc
     ≡ true
-may_picture-stands t w d crtc stands lt = covered_crtc t w d crtc (state_at d.crtcs crtc) stands refl lt
+may_picture-stands {t} {w} {d} crtc stands lt = covered_crtc crtc (state_at d.crtcs crtc) stands refl lt

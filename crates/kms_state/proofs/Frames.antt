@@ -20,19 +20,20 @@ use Rattle.kms_model.specs.Request.Agreement.{conn_state_at, crtc_state_at, on_c
 use Rattle.kms_model.proofs.MaskLemmas.{same_masks}
 use Rattle.kms_model.proofs.ValueLemmas.{Puts}
 
-pub crtc_at-other : (before after : List Setting) (object prop o : ℕ) (number : ℤ) → Puts before after object prop number → o ≢ object
+pub crtc_at-other : {before after : List Setting} {object prop : ℕ} (o : ℕ) {number : ℤ} → Puts before after object prop number → o ≢ object
     → crtc_at after o ≡ crtc_at before o
-crtc_at-other before after object prop o number puts other = ap natural (puts.other_object o CRTC_ID other)
+crtc_at-other o puts other = ap natural (puts.other_object o CRTC_ID other)
 
-pub plane_at-other : (things : List Thing) (before after : List Setting) (object prop o : ℕ) (number : ℤ)
+pub plane_at-other : (things : List Thing) {before after : List Setting} {object prop : ℕ} (o : ℕ) {number : ℤ}
     → Puts before after object prop number → o ≢ object → plane_at things after o ≡ plane_at things before o
-plane_at-other things before after object prop o number puts other = ap (λ v. plane_from v things)
+plane_at-other things o puts other = ap (λ v. plane_from v things)
     (fun_ext (λ p. puts.other_object o p other))
 
-pub conn_state_at-other : (before after : List Setting) (object prop o : ℕ) (number : ℤ) → Puts before after object prop number → o ≢ object
+pub conn_state_at-other : {before after : List Setting} {object prop : ℕ} (o : ℕ) {number : ℤ} → Puts before after object prop number → o ≢
+    object
     → conn_state_at after o ≡ conn_state_at before o
-conn_state_at-other before after object prop o number puts other = ap (λ crtc. record { crtc = crtc })
-    (crtc_at-other before after object prop o number puts other)
+conn_state_at-other {before} {after} {object} {prop} o {number} puts other = ap (λ crtc. record { crtc = crtc })
+    (crtc_at-other o puts other)
 
 -- the sets of a CRTC's planes and connectors stay where each stays where it is
 pub on_crtc-same : (t : Topology) (before after : List Setting) (crtc : ℕ) (kind : Kind)
@@ -53,22 +54,23 @@ same_crtc_state a b active mode gamma planes conns =
     ∙ ap (λ x. crtc_state b.active b.mode b.gamma x a.conns) planes ∙ ap (λ x. crtc_state b.active b.mode b.gamma b.planes x) conns
 
 -- A set of another property than CRTC_ID moves no object.
-pub crtc_at-kept : (before after : List Setting) (object prop o : ℕ) (number : ℤ) → Puts before after object prop number → prop ≢ CRTC_ID
+pub crtc_at-kept : {before after : List Setting} {object prop : ℕ} (o : ℕ) {number : ℤ} → Puts before after object prop number → prop ≢
+    CRTC_ID
     → crtc_at after o ≡ crtc_at before o
-crtc_at-kept before after object prop o number puts other =
+crtc_at-kept {before} {after} {object} {prop} o {number} puts other =
     elim (cases_eq o object) [
       | inl same ↦ ap (crtc_at after) same ∙ ap natural (puts.other_prop CRTC_ID (λ e. other (sym e))) ∙ ap (crtc_at before) (sym same)
-      | inr apart ↦ crtc_at-other before after object prop o number puts apart
+      | inr apart ↦ crtc_at-other o puts apart
     ]
 
 -- A CRTC of which no property is set and no object moves stays.
-pub crtc_state_at-other : (t : Topology) (things : List Thing) (before after : List Setting) (object prop crtc : ℕ) (number : ℤ)
+pub crtc_state_at-other : (t : Topology) (things : List Thing) {before after : List Setting} {object prop : ℕ} (crtc : ℕ) {number : ℤ}
     → Puts before after object prop number → crtc ≢ object → prop ≢ CRTC_ID
     → crtc_state_at t things after crtc ≡ crtc_state_at t things before crtc
-crtc_state_at-other t things before after object prop crtc number puts apart other =
+crtc_state_at-other t things {before} {after} {object} {prop} crtc {number} puts apart other =
     same_crtc_state (crtc_state_at t things after crtc) (crtc_state_at t things before crtc)
     (ap (λ z. not (int_eq z (pos 0))) (puts.other_object crtc ACTIVE apart))
     (ap (λ z. mode_of (thing_numbered things z)) (puts.other_object crtc MODE_ID apart))
     (ap (λ z. gamma_of (thing_numbered things z)) (puts.other_object crtc GAMMA_LUT apart))
-    (on_crtc-same t before after crtc Plane (λ k within. crtc_at-kept before after object prop (object_id Plane k) number puts other))
-    (on_crtc-same t before after crtc Conn (λ k within. crtc_at-kept before after object prop (object_id Conn k) number puts other))
+    (on_crtc-same t before after crtc Plane (λ k within. crtc_at-kept (object_id Plane k) puts other))
+    (on_crtc-same t before after crtc Conn (λ k within. crtc_at-kept (object_id Conn k) puts other))

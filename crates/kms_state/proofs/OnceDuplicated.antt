@@ -45,9 +45,9 @@ free {S} kind states id h =
     ]
 
 -- what is duplicated after one more is put in
-put_in : {S : Type 0} (kind : Kind) (states : List (Option S)) (id : ℕ) (s : S) (o : ℕ) → IsFree kind states id
+put_in : {S : Type 0} {kind : Kind} {states : List (Option S)} {id : ℕ} (s : S) (o : ℕ) → IsFree kind states id
     → is_some (state_of kind (set states (id - first_id kind) (Some s)) o) ≡ ((o == id) || is_some (state_of kind states o))
-put_in {S} kind states id s o place =
+put_in {S} {kind} {states} {id} s o place =
     elim (cases_eq o id) [
       | inl same ↦ (
           let from : first_id kind ≤ o = omega (arith, place.from, same) in
@@ -66,30 +66,30 @@ put_in {S} kind states id s o place =
     ]
 
 -- an object of another kind is another
-other_kind : (o id : ℕ) (kind other : Kind) → kind_of o ≡ kind → kind_of id ≡ other → kind ≢ other → (b : Bool) → b ≡ ((o == id) || b)
-other_kind o id kind other is_o is_id apart b = sym (ap (λ x. x || b) (ne_eqb o id (λ e. apart (sym is_o ∙ ap kind_of e ∙ is_id))))
+other_kind : (o id : ℕ) {kind other : Kind} → kind_of o ≡ kind → kind_of id ≡ other → kind ≢ other → (b : Bool) → b ≡ ((o == id) || b)
+other_kind o id is_o is_id apart b = sym (ap (λ x. x || b) (ne_eqb o id (λ e. apart (sym is_o ∙ ap kind_of e ∙ is_id))))
 
 there_after_crtc : (d : Duplicates) (id o : ℕ) (s : CrtcState) (kind : Kind) → kind_of o ≡ kind → kind_of id ≡ Crtc → IsFree Crtc d.crtcs id
     → is_duplicated_of kind (duplicated d id (state.Crtc s)) o ≡ ((o == id) || is_duplicated_of kind d o)
-there_after_crtc d id o s Crtc is_o is_id place = put_in Crtc d.crtcs id (alike s) o place
-there_after_crtc d id o s Plane is_o is_id place = other_kind o id Plane Crtc is_o is_id (λ e. cc) (is_some (state_of Plane d.planes o))
-there_after_crtc d id o s Conn is_o is_id place = other_kind o id Conn Crtc is_o is_id (λ e. cc) (is_some (state_of Conn d.conns o))
-there_after_crtc d id o s Enc is_o is_id place = other_kind o id Enc Crtc is_o is_id (λ e. cc) false
+there_after_crtc d id o s Crtc is_o is_id place = put_in (alike s) o place
+there_after_crtc d id o s Plane is_o is_id place = other_kind o id is_o is_id (λ e. cc) (is_some (state_of Plane d.planes o))
+there_after_crtc d id o s Conn is_o is_id place = other_kind o id is_o is_id (λ e. cc) (is_some (state_of Conn d.conns o))
+there_after_crtc d id o s Enc is_o is_id place = other_kind o id is_o is_id (λ e. cc) false
 
 there_after_plane : (d : Duplicates) (id o : ℕ) (s : PlaneState) (kind : Kind) → kind_of o ≡ kind → kind_of id ≡ Plane
     → IsFree Plane d.planes id
     → is_duplicated_of kind (duplicated d id (state.Plane s)) o ≡ ((o == id) || is_duplicated_of kind d o)
-there_after_plane d id o s Crtc is_o is_id place = other_kind o id Crtc Plane is_o is_id (λ e. cc) (is_some (state_of Crtc d.crtcs o))
-there_after_plane d id o s Plane is_o is_id place = put_in Plane d.planes id (alike s) o place
-there_after_plane d id o s Conn is_o is_id place = other_kind o id Conn Plane is_o is_id (λ e. cc) (is_some (state_of Conn d.conns o))
-there_after_plane d id o s Enc is_o is_id place = other_kind o id Enc Plane is_o is_id (λ e. cc) false
+there_after_plane d id o s Crtc is_o is_id place = other_kind o id is_o is_id (λ e. cc) (is_some (state_of Crtc d.crtcs o))
+there_after_plane d id o s Plane is_o is_id place = put_in (alike s) o place
+there_after_plane d id o s Conn is_o is_id place = other_kind o id is_o is_id (λ e. cc) (is_some (state_of Conn d.conns o))
+there_after_plane d id o s Enc is_o is_id place = other_kind o id is_o is_id (λ e. cc) false
 
 there_after_conn : (d : Duplicates) (id o : ℕ) (s : ConnState) (kind : Kind) → kind_of o ≡ kind → kind_of id ≡ Conn → IsFree Conn d.conns id
     → is_duplicated_of kind (duplicated d id (state.Conn s)) o ≡ ((o == id) || is_duplicated_of kind d o)
-there_after_conn d id o s Crtc is_o is_id place = other_kind o id Crtc Conn is_o is_id (λ e. cc) (is_some (state_of Crtc d.crtcs o))
-there_after_conn d id o s Plane is_o is_id place = other_kind o id Plane Conn is_o is_id (λ e. cc) (is_some (state_of Plane d.planes o))
-there_after_conn d id o s Conn is_o is_id place = put_in Conn d.conns id (alike s) o place
-there_after_conn d id o s Enc is_o is_id place = other_kind o id Enc Conn is_o is_id (λ e. cc) false
+there_after_conn d id o s Crtc is_o is_id place = other_kind o id is_o is_id (λ e. cc) (is_some (state_of Crtc d.crtcs o))
+there_after_conn d id o s Plane is_o is_id place = other_kind o id is_o is_id (λ e. cc) (is_some (state_of Plane d.planes o))
+there_after_conn d id o s Conn is_o is_id place = put_in (alike s) o place
+there_after_conn d id o s Enc is_o is_id place = other_kind o id is_o is_id (λ e. cc) false
 
 -- a CRTC's state duplicated
 pub crtc_duplicated : (d : Duplicates) (id o : ℕ) (s : CrtcState) → length d.crtcs ≡ 4 → is_free Crtc d.crtcs id ≡ true

@@ -143,7 +143,7 @@ state_after t things before after Plane index prop c number routed planes room l
     (puts.other_object (object_id Crtc c) GAMMA_LUT (apart_from_crtc Plane index c routed low)))
     refl
     (on_crtc-same t before after (object_id Crtc c) Conn
-    (λ k within. crtc_at-other before after (object_id Plane index) prop (object_id Conn k) number puts (λ e. omega (arith, e))))
+    (λ k within. crtc_at-other (object_id Conn k) puts (λ e. omega (arith, e))))
 state_after t things before after Conn index prop c number routed planes room low puts =
     same_crtc_state (crtc_state_at t things after (object_id Crtc c))
     (with_mask Conn (on_crtc t after (object_id Crtc c) Conn) (crtc_state_at t things before (object_id Crtc c)))
@@ -152,7 +152,7 @@ state_after t things before after Conn index prop c number routed planes room lo
     (ap (λ z. gamma_of (thing_numbered things z))
     (puts.other_object (object_id Crtc c) GAMMA_LUT (apart_from_crtc Conn index c routed low)))
     (on_crtc-same t before after (object_id Crtc c) Plane
-    (λ k within. crtc_at-other before after (object_id Conn index) prop (object_id Plane k) number puts
+    (λ k within. crtc_at-other (object_id Plane k) puts
     (λ e. omega (arith, e, within))))
     refl
 state_after t things before after Enc index prop c number routed planes room low puts = absurd routed
@@ -184,7 +184,7 @@ AreNew-rerouted t things before after kind index prop number crtcs routed planes
     ∙ chosen kind (test before c index) false index (old c)) in
     let others : (c k : ℕ) → k < n → k ≢ index → test after c k
     ≡ test before c k = λ c k h other. ap (λ x. x == object_id Crtc c)
-    (crtc_at-other before after (object_id kind index) prop (object_id kind k) number puts (object_apart kind k index other)) in
+    (crtc_at-other (object_id kind k) puts (object_apart kind k index other)) in
     let enters : (c : ℕ) → c < length crtcs → new c
     ≡ (if to == object_id Crtc c then with_routed kind index true (mid c) else mid c) = λ c h.
     (let is : mask_of kind (mid c) ≡ mask_below (but (test before c) index) n = mask_of-with kind (mask_below (but (test before c) index) n)

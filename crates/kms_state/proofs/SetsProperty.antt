@@ -34,7 +34,8 @@ use Rattle.kms_model.specs.Request.Agreement.{AgreesNew, AreNew, StandsFor, conn
 use Rattle.kms_model.proofs.SetLemmas.{may_set-takes, takes}
 use Rattle.kms_model.proofs.ValueLemmas.{Puts, Puts-put}
 use Rattle.kms_state.specs.Places.{is_duplicated, is_duplicated_of, state_of, old_states}
-use Rattle.kms_state.specs.Changes.{HasObject, IsSet, Sets, after_crtc, after_number, after_value, new_number, plane_after_set, rerouted}
+use Rattle.kms_state.specs.Changes.{HasObject, IsSet, Sets, after_crtc, changed, after_number, after_value, new_number}
+use Rattle.kms_state.specs.Changes.{plane_after_set, rerouted}
 use Rattle.kms_state.specs.Changes.{set_to, with_new}
 use Rattle.kms_state.proofs.Frames.{conn_state_at-other, crtc_at-kept, crtc_state_at-other, on_crtc-same, plane_at-other, same_crtc_state}
 use Rattle.kms_model.proofs.KindsOfIds.{has_kind, kind-conn, kind-crtc, kind-plane}
@@ -47,9 +48,9 @@ pub record IsAt {S : Type 0} (kind : Kind) (states : List (Option (Both S))) (id
   pub at : slice_get states (id - first_id kind) ≡ Some (Some both)
 
 -- what a search by id finds is there
-pub is_at : {S : Type 0} (kind : Kind) (states : List (Option (Both S))) (id : ℕ) (both : Both S)
+pub is_at : {S : Type 0} {kind : Kind} {states : List (Option (Both S))} {id : ℕ} {both : Both S}
     → IsTrue (is_some (state_of kind states id)) → Some both ≡ state_at states (id - first_id kind) → IsAt kind states id both
-is_at {S} kind states id both there is = record {
+is_at {kind = kind} {states} {id} {both} there is = record {
   from = elim (cases_lt id (first_id kind)) [
     | inl below ↦ (let none : is_some (state_of kind states id)
         ≡ false = ap (λ b. is_some (if b then state_at states (id - first_id kind) else None)) (lt-leb (first_id kind) id below) in
@@ -60,82 +61,84 @@ is_at {S} kind states id both there is = record {
 }
 
 -- a set of a property that is kept
-pub set_is : (d after : Duplicates) (id prop : ℕ) (value : SetValue) → is_kept prop ≡ true → after ≡ after_value d id prop value
+pub set_is : (d : Duplicates) {after : Duplicates} (id prop : ℕ) (value : SetValue) → is_kept prop ≡ true → after ≡ after_value d id prop
+    value
     → old_states after ≡ old_states d
     → ((t : Topology) (things : List Thing) (values : List Setting) (number : ℤ) → HasObject t id → AgreesNew t things values d
     → StandsFor things value number → AgreesNew t things (put values id prop number) after)
     → IsSet d (set_to id prop value) after
-set_is d after id prop value kept states old new = record {
+set_is d id prop value kept states old new = record {
   states = states;
   new = λ t things values number room agrees stands. rw kept (new t things values number room agrees stands);
   old = old;
 }
 
 -- a number of a plane, or its framebuffer
-pub sets_plane : (d : Duplicates) (id prop : ℕ) (value : SetValue) (both other : Both PlaneState) → IsAt Plane d.planes id both → other.old
-    ≡ both.old → length d.crtcs ≡ 4
-    → record d { planes = set d.planes (id - first_id Plane) (Some other) } ≡ after_value d id prop value
-    → is_kept prop ≡ true → prop ≢ CRTC_ID
+pub sets_plane : {d : Duplicates} {id : ℕ} {both : Both PlaneState} (prop : ℕ) (value : SetValue) (f : PlaneState → PlaneState)
+    → IsAt Plane d.planes id both → length d.crtcs ≡ 4
+    → record d { planes = changed Plane d.planes id f } ≡ after_value d id prop value → is_kept prop ≡ true → prop ≢ CRTC_ID
     → ((things : List Thing) (before after : List Setting) (number : ℤ) → StandsFor things value number → Puts before after id prop number
-    → both.new ≡ plane_at things before id → other.new ≡ plane_at things after id)
-    → IsSet d (set_to id prop value) (record d { planes = set d.planes (id - first_id Plane) (Some other) })
-sets_plane d id prop value both other there old few states kept apart changes =
-    let is : id ≡ object_id Plane (id - first_id Plane) = omega (arith, there.from) in
-    set_is d (record d { planes = set d.planes (id - first_id Plane) (Some other) }) id prop value kept states
+    → f (plane_at things before id) ≡ plane_at things after id)
+    → IsSet d (set_to id prop value) (record d { planes = set d.planes (id - first_id Plane) (Some (with_new f both)) })
+sets_plane {d} {id} {both} prop value f there few states kept apart changes =
+    let index : ℕ = id - first_id Plane in
+    let is : id ≡ object_id Plane index = omega (arith, there.from) in
+    set_is d id prop value kept
+    (ap (λ xs. record d { planes = xs }) (sym (changed-at Plane d.planes id both f there.from there.at)) ∙ states)
     (ap (λ xs. record { crtcs = (old_states d).crtcs; planes = xs; conns = (old_states d).conns })
-    (olds-set d.planes (id - first_id Plane) both other there.at old))
+    (olds-set d.planes index both (with_new f both) there.at refl))
     (λ t things values number room agrees stands.
     let after : List Setting = put values id prop number in
     let puts : Puts values after id prop number = Puts-put values id prop number in
     record {
       crtcs = AreNew-same (λ c. crtc_state_at t things values (object_id Crtc c)) (λ c. crtc_state_at t things after (object_id Crtc c))
           d.crtcs agrees.crtcs
-          (λ c h. crtc_state_at-other t things values after id prop (object_id Crtc c) number puts
+          (λ c h. crtc_state_at-other t things (object_id Crtc c) puts
           (λ e. omega (arith, e, few, h, there.from)) apart);
       planes = AreNew-set (λ i. plane_at things values (object_id Plane i)) (λ i. plane_at things after (object_id Plane i)) d.planes
-          (id - first_id Plane) other agrees.planes
-          (λ k h ne. plane_at-other things values after id prop (object_id Plane k) number puts (λ e. ne (omega (arith, e))))
-          (changes things values after number stands puts
-          (agrees.planes (id - first_id Plane) both there.at ∙ ap (plane_at things values) (sym is)) ∙ ap (plane_at things after) is);
+          index (with_new f both) agrees.planes
+          (λ k h ne. plane_at-other things (object_id Plane k) puts (λ e. ne (omega (arith, e))))
+          (ap f (agrees.planes index both there.at ∙ ap (plane_at things values) (sym is))
+          ∙ changes things values after number stands puts ∙ ap (plane_at things after) is);
       conns = AreNew-same (λ i. conn_state_at values (object_id Conn i)) (λ i. conn_state_at after (object_id Conn i)) d.conns agrees.conns
-          (λ i h. ap (λ crtc. record { crtc = crtc }) (crtc_at-kept values after id prop (object_id Conn i) number puts apart));
+          (λ i h. ap (λ crtc. record { crtc = crtc }) (crtc_at-kept (object_id Conn i) puts apart));
     })
 
 -- ACTIVE, MODE_ID or GAMMA_LUT of a CRTC
-pub sets_crtc : (d : Duplicates) (id prop : ℕ) (value : SetValue) (both other : Both CrtcState) → IsAt Crtc d.crtcs id both → other.old
-    ≡ both.old → length d.crtcs ≡ 4
-    → record d { crtcs = set d.crtcs (id - first_id Crtc) (Some other) } ≡ after_value d id prop value
-    → is_kept prop ≡ true → prop ≢ CRTC_ID
+pub sets_crtc : {d : Duplicates} {id : ℕ} {both : Both CrtcState} (prop : ℕ) (value : SetValue) (f : CrtcState → CrtcState)
+    → IsAt Crtc d.crtcs id both → length d.crtcs ≡ 4
+    → record d { crtcs = changed Crtc d.crtcs id f } ≡ after_value d id prop value → is_kept prop ≡ true → prop ≢ CRTC_ID
     → ((t : Topology) (things : List Thing) (before after : List Setting) (number : ℤ) → StandsFor things value number
-    → Puts before after id prop number → both.new ≡ crtc_state_at t things before id → other.new ≡ crtc_state_at t things after id)
-    → IsSet d (set_to id prop value) (record d { crtcs = set d.crtcs (id - first_id Crtc) (Some other) })
-sets_crtc d id prop value both other there old few states kept apart changes =
-    let is : id ≡ object_id Crtc (id - first_id Crtc) = omega (arith, there.from) in
-    let within : id - first_id Crtc < length d.crtcs = slice_get_within d.crtcs (id - first_id Crtc) (Some both) there.at in
-    set_is d (record d { crtcs = set d.crtcs (id - first_id Crtc) (Some other) }) id prop value kept states
+    → Puts before after id prop number → f (crtc_state_at t things before id) ≡ crtc_state_at t things after id)
+    → IsSet d (set_to id prop value) (record d { crtcs = set d.crtcs (id - first_id Crtc) (Some (with_new f both)) })
+sets_crtc {d} {id} {both} prop value f there few states kept apart changes =
+    let index : ℕ = id - first_id Crtc in
+    let is : id ≡ object_id Crtc index = omega (arith, there.from) in
+    let within : index < length d.crtcs = slice_get_within d.crtcs index (Some both) there.at in
+    set_is d id prop value kept
+    (ap (λ xs. record d { crtcs = xs }) (sym (changed-at Crtc d.crtcs id both f there.from there.at)) ∙ states)
     (ap (λ xs. record { crtcs = xs; planes = (old_states d).planes; conns = (old_states d).conns })
-    (olds-set d.crtcs (id - first_id Crtc) both other there.at old))
+    (olds-set d.crtcs index both (with_new f both) there.at refl))
     (λ t things values number room agrees stands.
     let after : List Setting = put values id prop number in
     let puts : Puts values after id prop number = Puts-put values id prop number in
     record {
       crtcs = AreNew-set (λ c. crtc_state_at t things values (object_id Crtc c)) (λ c. crtc_state_at t things after (object_id Crtc c))
-          d.crtcs (id - first_id Crtc) other agrees.crtcs
-          (λ c h ne. crtc_state_at-other t things values after id prop (object_id Crtc c) number puts (λ e. ne (omega (arith, e))) apart)
-          (changes t things values after number stands puts
-          (agrees.crtcs (id - first_id Crtc) both there.at ∙ ap (crtc_state_at t things values) (sym is)) ∙ ap
-          (crtc_state_at t things after) is);
+          d.crtcs index (with_new f both) agrees.crtcs
+          (λ c h ne. crtc_state_at-other t things (object_id Crtc c) puts (λ e. ne (omega (arith, e))) apart)
+          (ap f (agrees.crtcs index both there.at ∙ ap (crtc_state_at t things values) (sym is))
+          ∙ changes t things values after number stands puts ∙ ap (crtc_state_at t things after) is);
       planes = AreNew-same (λ i. plane_at things values (object_id Plane i)) (λ i. plane_at things after (object_id Plane i)) d.planes
           agrees.planes
-          (λ k h. plane_at-other things values after id prop (object_id Plane k) number puts (λ e. omega (arith, e, within, few)));
+          (λ k h. plane_at-other things (object_id Plane k) puts (λ e. omega (arith, e, within, few)));
       conns = AreNew-same (λ i. conn_state_at values (object_id Conn i)) (λ i. conn_state_at after (object_id Conn i)) d.conns agrees.conns
-          (λ i h. ap (λ crtc. record { crtc = crtc }) (crtc_at-kept values after id prop (object_id Conn i) number puts apart));
+          (λ i h. ap (λ crtc. record { crtc = crtc }) (crtc_at-kept (object_id Conn i) puts apart));
     })
 
 -- Each property's value after a set.
-pub value_after : (before after : List Setting) (object prop q : ℕ) (number : ℤ) → Puts before after object prop number
+pub value_after : {before after : List Setting} {object prop : ℕ} (q : ℕ) {number : ℤ} → Puts before after object prop number
     → value after object q ≡ (if prop == q then number else value before object q)
-value_after before after object prop q number puts =
+value_after {before} {after} {object} {prop} q {number} puts =
     elim (cases_eq prop q) [
       | inl same ↦ ap (value after object) (sym same) ∙ puts.at ∙ sym
           (ap (λ b. if b then number else value before object q) (eq-eqb prop q same))
@@ -143,22 +146,22 @@ value_after before after object prop q number puts =
           (ap (λ b. if b then number else value before object q) (ne_eqb prop q other))
     ]
 
-pub plane_after : (things : List Thing) (before after : List Setting) (object prop : ℕ) (number : ℤ) → Puts before after object prop number
+pub plane_after : (things : List Thing) {before after : List Setting} {object prop : ℕ} {number : ℤ} → Puts before after object prop number
     → plane_at things after object ≡ plane_from (λ q. if prop == q then number else value before object q) things
-plane_after things before after object prop number puts = ap (λ v. plane_from v things)
-    (fun_ext (λ q. value_after before after object prop q number puts))
+plane_after things {before} {after} {object} {prop} {number} puts = ap (λ v. plane_from v things)
+    (fun_ext (λ q. value_after q puts))
 
 natural_if : (b : Bool) (x y : ℤ) → natural (if b then x else y) ≡ (if b then natural x else natural y)
 natural_if true x y = refl
 natural_if false x y = refl
 
 -- a plane's state after one of its numbers is set
-pub number_plane : (things : List Thing) (before after : List Setting) (object prop : ℕ) (n : ℤ) → Puts before after object prop n
+pub number_plane : (things : List Thing) {before after : List Setting} {object prop : ℕ} {n : ℤ} → Puts before after object prop n
     → prop ≢ FB_ID → prop ≢ CRTC_ID
     → plane_after_set prop n (plane_at things before object) ≡ plane_at things after object
-number_plane things before after object prop n puts other_fb other_crtc =
+number_plane things {before} {after} {object} {prop} {n} puts other_fb other_crtc =
     let v : ℕ → ℤ = value before object in
-    sym (plane_after things before after object prop n puts
+    sym (plane_after things puts
     ∙ rw (
       ne_eqb prop FB_ID other_fb,
       ne_eqb prop CRTC_ID other_crtc,
@@ -167,22 +170,22 @@ number_plane things before after object prop n puts other_fb other_crtc =
       natural_if (prop == ZPOS) n (v ZPOS),
     ) refl)
 
-pub fb_plane : (things : List Thing) (before after : List Setting) (object : ℕ) (fb : Option FbInfo) (number : ℤ)
+pub fb_plane : (things : List Thing) {before after : List Setting} {object : ℕ} {fb : Option FbInfo} {number : ℤ}
     → Puts before after object FB_ID number → framebuffer_of (thing_numbered things number) ≡ fb
     → record (plane_at things before object) { fb = fb } ≡ plane_at things after object
-fb_plane things before after object fb number puts stands =
-    sym (plane_after things before after object FB_ID number puts ∙ ap (λ x. record (plane_at things before object) { fb = x }) stands)
+fb_plane things {before} {after} {object} {fb} {number} puts stands =
+    sym (plane_after things puts ∙ ap (λ x. record (plane_at things before object) { fb = x }) stands)
 
-pub crtc_plane : (things : List Thing) (before after : List Setting) (object crtc : ℕ) (number : ℤ)
+pub crtc_plane : (things : List Thing) {before after : List Setting} {object : ℕ} (crtc : ℕ) {number : ℤ}
     → Puts before after object CRTC_ID number → number ≡ pos crtc
     → record (plane_at things before object) { crtc = crtc } ≡ plane_at things after object
-crtc_plane things before after object crtc number puts stands =
-    sym (plane_after things before after object CRTC_ID number puts ∙ ap (λ x. record (plane_at things before object) { crtc = natural x })
+crtc_plane things {before} {after} {object} crtc {number} puts stands =
+    sym (plane_after things puts ∙ ap (λ x. record (plane_at things before object) { crtc = natural x })
     stands)
 
 -- an object that a device has, by its kind
-there_by_kind : (t : Topology) (id : ℕ) (kind : Kind) → kind_of id ≡ kind → HasObject t id → id - first_id kind < count_of t kind
-there_by_kind t id kind is room = ltb-true (id - first_id kind) (count_of t kind)
+there_by_kind : {t : Topology} {id : ℕ} {kind : Kind} → kind_of id ≡ kind → HasObject t id → id - first_id kind < count_of t kind
+there_by_kind {t} {id} {kind} is room = ltb-true (id - first_id kind) (count_of t kind)
     (subst (λ k. exists t k (id - first_id k) ≡ true) is room.there)
 
 -- the CRTCs after CRTC_ID of a plane or a connector is set
@@ -234,7 +237,7 @@ moves_plane d id target both there few many =
     let within : index < length d.planes = slice_get_within d.planes index (Some both) there.at in
     let kind : kind_of id ≡ Plane = kind-plane id there.from (omega arith) in
     let other : Both PlaneState = record both { new = record both.new { crtc = target } } in
-    set_is d (record d { planes = set d.planes index (Some other); crtcs = rerouted d.crtcs Plane index both.new.crtc target }) id CRTC_ID
+    set_is d id CRTC_ID
     (to.Crtc target) refl
     (sym (plane_moved d id target both there kind))
     (ap₂ (λ xs ys. record { crtcs = xs; planes = ys; conns = (old_states d).conns })
@@ -245,16 +248,16 @@ moves_plane d id target both there few many =
     let puts_at : Puts values after (object_id Plane index) CRTC_ID number = subst (λ o. Puts values after o CRTC_ID number) is puts in
     let was : both.new ≡ plane_at things values (object_id Plane index) = agrees.planes index both there.at in
     let new : record both.new { crtc = target } ≡ plane_at things after (object_id Plane index) = ap
-    (λ (s : PlaneState). record s { crtc = target }) was ∙ crtc_plane things values after (object_id Plane index) target number puts_at
+    (λ (s : PlaneState). record s { crtc = target }) was ∙ crtc_plane things target puts_at
     stands in
     record {
       crtcs = moves_crtcs t things values after Plane index both.new.crtc target number d.crtcs tt room.planes
-          (there_by_kind t id Plane kind room) room.planes few puts_at stands (ap (λ s. s.crtc) was) agrees.crtcs;
+          (there_by_kind kind room) room.planes few puts_at stands (ap (λ s. s.crtc) was) agrees.crtcs;
       planes = AreNew-set (λ i. plane_at things values (object_id Plane i)) (λ i. plane_at things after (object_id Plane i)) d.planes index
           other agrees.planes
-          (λ k h ne. plane_at-other things values after id CRTC_ID (object_id Plane k) number puts (λ e. ne (omega (arith, e)))) new;
+          (λ k h ne. plane_at-other things (object_id Plane k) puts (λ e. ne (omega (arith, e)))) new;
       conns = AreNew-same (λ i. conn_state_at values (object_id Conn i)) (λ i. conn_state_at after (object_id Conn i)) d.conns agrees.conns
-          (λ i h. conn_state_at-other values after id CRTC_ID (object_id Conn i) number puts (λ e. omega (arith, e, within, many)));
+          (λ i h. conn_state_at-other (object_id Conn i) puts (λ e. omega (arith, e, within, many)));
     })
 
 -- CRTC_ID of a connector
@@ -270,7 +273,7 @@ moves_conn d id target both there few most many =
     let within : index < length d.conns = slice_get_within d.conns index (Some both) there.at in
     let kind : kind_of id ≡ Conn = kind-conn id there.from (omega arith) in
     let other : Both ConnState = record both { new = record both.new { crtc = target } } in
-    set_is d (record d { conns = set d.conns index (Some other); crtcs = rerouted d.crtcs Conn index both.new.crtc target }) id CRTC_ID
+    set_is d id CRTC_ID
     (to.Crtc target) refl
     (sym (conn_moved d id target both there kind))
     (ap₂ (λ xs ys. record { crtcs = xs; planes = (old_states d).planes; conns = ys })
@@ -282,14 +285,14 @@ moves_conn d id target both there few most many =
     let was : both.new ≡ conn_state_at values (object_id Conn index) = agrees.conns index both there.at in
     record {
       crtcs = moves_crtcs t things values after Conn index both.new.crtc target number d.crtcs tt room.planes
-          (there_by_kind t id Conn kind room) (omega (arith, room.conns)) few puts_at stands (ap (λ s. s.crtc) was) agrees.crtcs;
+          (there_by_kind kind room) (omega (arith, room.conns)) few puts_at stands (ap (λ s. s.crtc) was) agrees.crtcs;
       planes = AreNew-same (λ i. plane_at things values (object_id Plane i)) (λ i. plane_at things after (object_id Plane i)) d.planes
           agrees.planes
-          (λ k h. plane_at-other things values after id CRTC_ID (object_id Plane k) number puts
+          (λ k h. plane_at-other things (object_id Plane k) puts
           (λ e. omega (arith, e, h, most, there.from)));
       conns = AreNew-set (λ i. conn_state_at values (object_id Conn i)) (λ i. conn_state_at after (object_id Conn i)) d.conns index other
           agrees.conns
-          (λ k h ne. conn_state_at-other values after id CRTC_ID (object_id Conn k) number puts (λ e. ne (omega (arith, e))))
+          (λ k h ne. conn_state_at-other (object_id Conn k) puts (λ e. ne (omega (arith, e))))
           (ap (λ c. record { crtc = c }) (sym (ap natural (puts_at.at ∙ stands))));
     })
 
@@ -301,205 +304,161 @@ is_zero z fits = same_from_decides (of_z w64 z == 0) (int_eq z (pos 0))
       zero_of (pos n) fits e = ap pos e
       zero_of (negsuc n) fits e = absurd (omega (arith, fits.sfits, e))
 
+-- A CRTC's state after one of its own properties is set: what planes and connectors are on it stays.
+crtc_with : (t : Topology) (things : List Thing) {before after : List Setting} {object prop : ℕ} {number : ℤ} (new : CrtcState)
+    → Puts before after object prop number → prop ≢ CRTC_ID
+    → not (int_eq (value after object ACTIVE) (pos 0)) ≡ new.active → mode_of (thing_numbered things (value after object MODE_ID)) ≡
+    new.mode
+    → gamma_of (thing_numbered things (value after object GAMMA_LUT)) ≡ new.gamma
+    → record (crtc_state_at t things before object) { active = new.active; mode = new.mode; gamma = new.gamma }
+    ≡ crtc_state_at t things after object
+crtc_with t things {before} {after} {object} {prop} {number} new puts apart active mode gamma =
+    sym (same_crtc_state (crtc_state_at t things after object)
+    (record (crtc_state_at t things before object) { active = new.active; mode = new.mode; gamma = new.gamma }) active mode gamma
+    (on_crtc-same t before after object Plane (λ k within. crtc_at-kept (object_id Plane k) puts apart))
+    (on_crtc-same t before after object Conn (λ k within. crtc_at-kept (object_id Conn k) puts apart)))
+
 -- ACTIVE of a CRTC
 pub active_crtc : (t : Topology) (things : List Thing) (before after : List Setting) (object : ℕ) (n number : ℤ) → SFits w64 n
-    → Puts before after object ACTIVE number → number ≡ n
+    → number ≡ n → Puts before after object ACTIVE number
     → record (crtc_state_at t things before object) { active = not (of_z w64 n == 0) } ≡ crtc_state_at t things after object
-active_crtc t things before after object n number fits puts stands =
-    let apart : ACTIVE ≢ CRTC_ID = λ e. omega (arith, e) in
-    sym (same_crtc_state (crtc_state_at t things after object)
-    (record (crtc_state_at t things before object) { active = not (of_z w64 n == 0) })
-    (ap (λ z. not (int_eq z (pos 0))) (puts.at ∙ stands) ∙ ap not (sym (is_zero n fits)))
+active_crtc t things before after object n number fits stands puts =
+    crtc_with t things (record (crtc_state_at t things before object) { active = not (of_z w64 n == 0) })
+    puts (λ e. omega (arith, e)) (ap (λ z. not (int_eq z (pos 0))) (puts.at ∙ stands) ∙ ap not (sym (is_zero n fits)))
     (ap (λ z. mode_of (thing_numbered things z)) (puts.other_prop MODE_ID (λ e. omega (arith, e))))
     (ap (λ z. gamma_of (thing_numbered things z)) (puts.other_prop GAMMA_LUT (λ e. omega (arith, e))))
-    (on_crtc-same t before after object Plane (λ k within. crtc_at-kept before after object ACTIVE (object_id Plane k) number puts apart))
-    (on_crtc-same t before after object Conn (λ k within. crtc_at-kept before after object ACTIVE (object_id Conn k) number puts apart)))
 
 -- MODE_ID of a CRTC
 pub mode_crtc : (t : Topology) (things : List Thing) (before after : List Setting) (object : ℕ) (mode : Option Mode) (number : ℤ)
-    → Puts before after object MODE_ID number → mode_of (thing_numbered things number) ≡ mode
+    → mode_of (thing_numbered things number) ≡ mode → Puts before after object MODE_ID number
     → record (crtc_state_at t things before object) { mode = mode } ≡ crtc_state_at t things after object
-mode_crtc t things before after object mode number puts stands =
-    let apart : MODE_ID ≢ CRTC_ID = λ e. omega (arith, e) in
-    sym (same_crtc_state (crtc_state_at t things after object) (record (crtc_state_at t things before object) { mode = mode })
-    (ap (λ z. not (int_eq z (pos 0))) (puts.other_prop ACTIVE (λ e. omega (arith, e))))
+mode_crtc t things before after object mode number stands puts =
+    crtc_with t things (record (crtc_state_at t things before object) { mode = mode })
+    puts (λ e. omega (arith, e)) (ap (λ z. not (int_eq z (pos 0))) (puts.other_prop ACTIVE (λ e. omega (arith, e))))
     (ap (λ z. mode_of (thing_numbered things z)) puts.at ∙ stands)
     (ap (λ z. gamma_of (thing_numbered things z)) (puts.other_prop GAMMA_LUT (λ e. omega (arith, e))))
-    (on_crtc-same t before after object Plane (λ k within. crtc_at-kept before after object MODE_ID (object_id Plane k) number puts apart))
-    (on_crtc-same t before after object Conn (λ k within. crtc_at-kept before after object MODE_ID (object_id Conn k) number puts apart)))
 
 -- GAMMA_LUT of a CRTC
 pub gamma_crtc : (t : Topology) (things : List Thing) (before after : List Setting) (object : ℕ) (gamma : Option Gamma) (number : ℤ)
-    → Puts before after object GAMMA_LUT number → gamma_of (thing_numbered things number) ≡ gamma
+    → gamma_of (thing_numbered things number) ≡ gamma → Puts before after object GAMMA_LUT number
     → record (crtc_state_at t things before object) { gamma = gamma } ≡ crtc_state_at t things after object
-gamma_crtc t things before after object gamma number puts stands =
-    let apart : GAMMA_LUT ≢ CRTC_ID = λ e. omega (arith, e) in
-    sym (same_crtc_state (crtc_state_at t things after object) (record (crtc_state_at t things before object) { gamma = gamma })
-    (ap (λ z. not (int_eq z (pos 0))) (puts.other_prop ACTIVE (λ e. omega (arith, e))))
+gamma_crtc t things before after object gamma number stands puts =
+    crtc_with t things (record (crtc_state_at t things before object) { gamma = gamma })
+    puts (λ e. omega (arith, e)) (ap (λ z. not (int_eq z (pos 0))) (puts.other_prop ACTIVE (λ e. omega (arith, e))))
     (ap (λ z. mode_of (thing_numbered things z)) (puts.other_prop MODE_ID (λ e. omega (arith, e))))
     (ap (λ z. gamma_of (thing_numbered things z)) puts.at ∙ stands)
-    (on_crtc-same t before after object Plane (λ k within. crtc_at-kept before after object GAMMA_LUT (object_id Plane k) number puts
-    apart))
-    (on_crtc-same t before after object Conn (λ k within. crtc_at-kept before after object GAMMA_LUT (object_id Conn k) number puts apart)))
 
 -- a set of one property, as a set
-pub as_set : (d after : Duplicates) (s : Set) (prop : ℕ) (value : SetValue) → s.prop ≡ prop → s.value ≡ value
+pub as_set : {d after : Duplicates} {s : Set} {prop : ℕ} {value : SetValue} → s.prop ≡ prop → s.value ≡ value
     → IsSet d (set_to s.object.0 prop value) after → IsSet d s after
-as_set d after s prop value same_prop same_value is = subst₂ (λ p v. IsSet d (record { object = s.object; prop = p; value = v }) after)
+as_set {d} {after} {s} same_prop same_value is = subst₂ (λ p v. IsSet d (record { object = s.object; prop = p; value = v }) after)
     (sym same_prop) (sym same_value) is
 
--- ACTIVE of a CRTC that is duplicated at its place
-pub active_after : (d : Duplicates) (id : ℕ) (n : ℤ) (both : Both CrtcState) → IsAt Crtc d.crtcs id both → length d.crtcs ≡ 4 → SFits w64 n
-    → record d { crtcs = set d.crtcs (id - first_id Crtc) (Some (with_new (λ s. record s { active = not (of_z w64 n == 0) }) both)) }
-    ≡ after_value d id ACTIVE (to.Num n)
-active_after d id n both there few fits =
+-- the states after ACTIVE of a CRTC is set
+pub active_after : (d : Duplicates) {id : ℕ} (n : ℤ) {both : Both CrtcState} → IsAt Crtc d.crtcs id both → length d.crtcs ≡ 4 → SFits w64 n
+    → record d { crtcs = changed Crtc d.crtcs id (λ s. record s { active = not (of_z w64 n == 0) }) } ≡ after_value d id ACTIVE (to.Num n)
+active_after d {id} n {both} there few fits =
     let within : id - first_id Crtc < length d.crtcs = slice_get_within d.crtcs (id - first_id Crtc) (Some both) there.at in
-    let kind : kind_of id ≡ Crtc = kind-crtc id (omega (arith, within, few)) in
-    sym (ap (λ k. after_number k d id ACTIVE n) kind
-    ∙ ap (λ xs. record d { crtcs = xs }) (changed-at Crtc d.crtcs id both (λ s. record s { active = not (int_eq n (pos 0)) }) there.from
-    there.at)
-    ∙ ap (λ b. record d { crtcs = set d.crtcs (id - first_id Crtc) (Some (with_new (λ s. record s { active = not b }) both)) })
-    (sym (is_zero n fits)))
+    sym (ap (λ k. after_number k d id ACTIVE n) (kind-crtc id (omega (arith, within, few)))
+    ∙ ap (λ b. record d { crtcs = changed Crtc d.crtcs id (λ s. record s { active = not b }) }) (sym (is_zero n fits)))
 
--- MODE_ID of a CRTC that is duplicated at its place
-pub mode_after : (d : Duplicates) (id : ℕ) (mode : Option Mode) (both : Both CrtcState) → IsAt Crtc d.crtcs id both
-    → record d { crtcs = set d.crtcs (id - first_id Crtc) (Some (with_new (λ s. record s { mode = mode }) both)) }
-    ≡ after_value d id MODE_ID (to.Mode mode)
-mode_after d id mode both there = ap (λ xs. record d { crtcs = xs })
-    (sym (changed-at Crtc d.crtcs id both (λ s. record s { mode = mode }) there.from there.at))
-
--- GAMMA_LUT of a CRTC that is duplicated at its place
-pub gamma_after : (d : Duplicates) (id : ℕ) (gamma : Option Gamma) (both : Both CrtcState) → IsAt Crtc d.crtcs id both
-    → record d { crtcs = set d.crtcs (id - first_id Crtc) (Some (with_new (λ s. record s { gamma = gamma }) both)) }
-    ≡ after_value d id GAMMA_LUT (to.Gamma gamma)
-gamma_after d id gamma both there = ap (λ xs. record d { crtcs = xs })
-    (sym (changed-at Crtc d.crtcs id both (λ s. record s { gamma = gamma }) there.from there.at))
-
--- FB_ID of a plane that is duplicated at its place
-pub fb_after : (d : Duplicates) (id : ℕ) (fb : Option FbInfo) (both : Both PlaneState) → IsAt Plane d.planes id both
-    → record d { planes = set d.planes (id - first_id Plane) (Some (with_new (λ s. record s { fb = fb }) both)) }
-    ≡ after_value d id FB_ID (to.Fb fb)
-fb_after d id fb both there = ap (λ xs. record d { planes = xs })
-    (sym (changed-at Plane d.planes id both (λ s. record s { fb = fb }) there.from there.at))
-
--- a number of a plane that is duplicated at its place
-pub number_after : (d : Duplicates) (id prop : ℕ) (n : ℤ) (both : Both PlaneState) (new : PlaneState) → IsAt Plane d.planes id both
-    → length d.planes ≡ 16 → new ≡ plane_after_set prop n both.new
-    → record d { planes = set d.planes (id - first_id Plane) (Some (record both { new = new })) } ≡ after_value d id prop (to.Num n)
-number_after d id prop n both new there many is =
+-- and after a number of a plane is set
+pub number_after : (d : Duplicates) (id prop : ℕ) (n : ℤ) (both : Both PlaneState) → IsAt Plane d.planes id both
+    → length d.planes ≡ 16
+    → record d { planes = changed Plane d.planes id (plane_after_set prop n) } ≡ after_value d id prop (to.Num n)
+number_after d id prop n both there many =
     let within : id - first_id Plane < length d.planes = slice_get_within d.planes (id - first_id Plane) (Some both) there.at in
-    let kind : kind_of id ≡ Plane = kind-plane id there.from (omega (arith, within, many)) in
-    sym (ap (λ k. after_number k d id prop n) kind
-    ∙ ap (λ xs. record d { planes = xs }) (changed-at Plane d.planes id both (plane_after_set prop n) there.from there.at)
-    ∙ ap (λ s. record d { planes = set d.planes (id - first_id Plane) (Some (record both { new = s })) }) (sym is))
+    sym (ap (λ k. after_number k d id prop n) (kind-plane id there.from (omega (arith, within, many))))
 
 -- a set of a fence
 pub sets_nothing : (d : Duplicates) (s : Set) → is_kept s.prop ≡ false → Sets d s d
 sets_nothing d s kept t things values number room agrees stands = rw kept agrees
-
--- what is duplicated, by its kind
-there : (d : Duplicates) (id : ℕ) (kind : Kind) → kind_of id ≡ kind → is_duplicated d id ≡ true → is_duplicated_of kind d id ≡ true
-there d id kind is h = subst (λ k. is_duplicated_of k d id ≡ true) is h
 
 -- A set that may be made, with what it is set to.
 pub record MaySet (d : Duplicates) (s : Set) (value : SetValue) : Type 0 where
   pub there : is_duplicated d s.object.0 ≡ true
   pub takes : takes (kind_of s.object.0) s.prop value ≡ true
 
-pub made : (d : Duplicates) (s : Set) (value : SetValue) → is_duplicated d s.object.0 ≡ true → may_set (kind_of s.object.0) s.prop s.value
-    ≡ true → s.value ≡ value → MaySet d s value
-made d s value there may is = record {
+pub made : (d : Duplicates) (s : Set) {value : SetValue} → is_duplicated d s.object.0 ≡ true
+    → may_set (kind_of s.object.0) s.prop s.value ≡ true → s.value ≡ value → MaySet d s value
+made d s {value} there may is = record {
   there = there;
   takes = may_set-takes (kind_of s.object.0) s.prop value (subst (λ v. may_set (kind_of s.object.0) s.prop v ≡ true) is may);
 }
 
+-- what is set is of one kind, and of one property
+of_kind : {d : Duplicates} {s : Set} {value : SetValue} (kind : Kind) (prop : ℕ) → MaySet d s value
+    → (kind_of s.object.0 ≡ kind) × (s.prop ≡ prop) → (is_duplicated_of kind d s.object.0 ≡ true) × (s.prop ≡ prop)
+of_kind {d} {s} kind prop may is = (subst (λ k. is_duplicated_of k d s.object.0 ≡ true) is.0 may.there, is.1)
+
 fb_kind : (kind : Kind) (prop : ℕ) (fb : Option FbInfo) → takes kind prop (to.Fb fb) ≡ true → (kind ≡ Plane) × (prop ≡ FB_ID)
-fb_kind Crtc prop fb h = absurd (false≢true h)
 fb_kind Plane prop fb h = (refl, eqb-true prop FB_ID h)
-fb_kind Conn prop fb h = absurd (false≢true h)
-fb_kind Enc prop fb h = absurd (false≢true h)
+fb_kind other prop fb h = absurd (false≢true h)
 
 mode_kind : (kind : Kind) (prop : ℕ) (mode : Option Mode) → takes kind prop (to.Mode mode) ≡ true → (kind ≡ Crtc) × (prop ≡ MODE_ID)
 mode_kind Crtc prop mode h = (refl, eqb-true prop MODE_ID h)
-mode_kind Plane prop mode h = absurd (false≢true h)
-mode_kind Conn prop mode h = absurd (false≢true h)
-mode_kind Enc prop mode h = absurd (false≢true h)
+mode_kind other prop mode h = absurd (false≢true h)
 
 gamma_kind : (kind : Kind) (prop : ℕ) (gamma : Option Gamma) → takes kind prop (to.Gamma gamma) ≡ true → (kind ≡ Crtc) × (prop ≡ GAMMA_LUT)
 gamma_kind Crtc prop gamma h = (refl, eqb-true prop GAMMA_LUT h)
-gamma_kind Plane prop gamma h = absurd (false≢true h)
-gamma_kind Conn prop gamma h = absurd (false≢true h)
-gamma_kind Enc prop gamma h = absurd (false≢true h)
+gamma_kind other prop gamma h = absurd (false≢true h)
 
 -- a set of FB_ID is one of a plane
-pub fb_set : (d : Duplicates) (s : Set) (fb : Option FbInfo) → MaySet d s (to.Fb fb) → (is_some (state_of Plane d.planes s.object.0) ≡ true)
-    × (s.prop ≡ FB_ID)
-fb_set d s fb may =
-    let kind : (kind_of s.object.0 ≡ Plane) × (s.prop ≡ FB_ID) = fb_kind (kind_of s.object.0) s.prop fb may.takes in
-    (there d s.object.0 Plane kind.0 may.there, kind.1)
+pub fb_set : {d : Duplicates} {s : Set} {fb : Option FbInfo} → MaySet d s (to.Fb fb)
+    → (is_some (state_of Plane d.planes s.object.0) ≡ true) × (s.prop ≡ FB_ID)
+fb_set {s = s} {fb} may = of_kind Plane FB_ID may (fb_kind (kind_of s.object.0) s.prop fb may.takes)
 
 -- a set of MODE_ID is one of a CRTC
-pub mode_set : (d : Duplicates) (s : Set) (mode : Option Mode) → MaySet d s (to.Mode mode)
+pub mode_set : {d : Duplicates} {s : Set} {mode : Option Mode} → MaySet d s (to.Mode mode)
     → (is_some (state_of Crtc d.crtcs s.object.0) ≡ true) × (s.prop ≡ MODE_ID)
-mode_set d s mode may =
-    let kind : (kind_of s.object.0 ≡ Crtc) × (s.prop ≡ MODE_ID) = mode_kind (kind_of s.object.0) s.prop mode may.takes in
-    (there d s.object.0 Crtc kind.0 may.there, kind.1)
+mode_set {s = s} {mode} may = of_kind Crtc MODE_ID may (mode_kind (kind_of s.object.0) s.prop mode may.takes)
 
 -- a set of GAMMA_LUT is one of a CRTC
-pub gamma_set : (d : Duplicates) (s : Set) (gamma : Option Gamma) → MaySet d s (to.Gamma gamma)
+pub gamma_set : {d : Duplicates} {s : Set} {gamma : Option Gamma} → MaySet d s (to.Gamma gamma)
     → (is_some (state_of Crtc d.crtcs s.object.0) ≡ true) × (s.prop ≡ GAMMA_LUT)
-gamma_set d s gamma may =
-    let kind : (kind_of s.object.0 ≡ Crtc) × (s.prop ≡ GAMMA_LUT) = gamma_kind (kind_of s.object.0) s.prop gamma may.takes in
-    (there d s.object.0 Crtc kind.0 may.there, kind.1)
+gamma_set {s = s} {gamma} may = of_kind Crtc GAMMA_LUT may (gamma_kind (kind_of s.object.0) s.prop gamma may.takes)
 
 -- a set of a number of a CRTC is one of ACTIVE
-pub active_set : (d : Duplicates) (s : Set) (n : ℤ) → s.object.0 < 200 → MaySet d s (to.Num n)
+pub active_set : {d : Duplicates} {s : Set} {n : ℤ} → MaySet d s (to.Num n) → s.object.0 < 200
     → (is_some (state_of Crtc d.crtcs s.object.0) ≡ true) × (s.prop ≡ ACTIVE)
-active_set d s n below may =
+active_set {s = s} {n} may below =
     let kind : kind_of s.object.0 ≡ Crtc = kind-crtc s.object.0 below in
-    (there d s.object.0 Crtc kind may.there, eqb-true s.prop ACTIVE (subst (λ k. takes k s.prop (to.Num n) ≡ true) kind may.takes))
+    of_kind Crtc ACTIVE may (kind, eqb-true s.prop ACTIVE (subst (λ k. takes k s.prop (to.Num n) ≡ true) kind may.takes))
 
 number_kind : (kind : Kind) (id prop : ℕ) (n : ℤ) → kind_of id ≡ kind → 200 ≤ id → takes kind prop (to.Num n) ≡ true → kind ≡ Plane
 number_kind Crtc id prop n is from h = absurd (let below : id < 200 = has_kind Crtc id is in omega arith)
 number_kind Plane id prop n is from h = refl
-number_kind Conn id prop n is from h = absurd (false≢true h)
-number_kind Enc id prop n is from h = absurd (false≢true h)
+number_kind other id prop n is from h = absurd (false≢true h)
 
 -- any other set of a number is one of a plane
-pub number_set : (d : Duplicates) (s : Set) (n : ℤ) → 200 ≤ s.object.0 → MaySet d s (to.Num n) → (kind_of s.object.0 ≡ Plane)
+pub number_set : {d : Duplicates} {s : Set} {n : ℤ} → MaySet d s (to.Num n) → 200 ≤ s.object.0 → (kind_of s.object.0 ≡ Plane)
     × (is_some (state_of Plane d.planes s.object.0) ≡ true)
-number_set d s n from may =
+number_set {s = s} {n} may from =
     let kind : kind_of s.object.0 ≡ Plane = number_kind (kind_of s.object.0) s.object.0 s.prop n refl from may.takes in
-    (kind, there d s.object.0 Plane kind may.there)
+    (kind, (of_kind Plane s.prop may (kind, refl)).0)
 
 plane_kind : (kind : Kind) (id prop crtc : ℕ) → kind_of id ≡ kind → id < 300 → takes kind prop (to.Crtc crtc) ≡ true → (kind ≡ Plane)
     × (prop ≡ CRTC_ID)
-plane_kind Crtc id prop crtc is below h = absurd (false≢true h)
 plane_kind Plane id prop crtc is below h = (refl, eqb-true prop CRTC_ID h)
 plane_kind Conn id prop crtc is below h = absurd (let range : (300 ≤ id) × (id < 400) = has_kind Conn id is in omega (arith, range.0))
-plane_kind Enc id prop crtc is below h = absurd (false≢true h)
+plane_kind other id prop crtc is below h = absurd (false≢true h)
 
 conn_kind : (kind : Kind) (id prop crtc : ℕ) → kind_of id ≡ kind → 300 ≤ id → takes kind prop (to.Crtc crtc) ≡ true → (kind ≡ Conn)
     × (prop ≡ CRTC_ID)
-conn_kind Crtc id prop crtc is from h = absurd (false≢true h)
 conn_kind Plane id prop crtc is from h = absurd (let range : (200 ≤ id) × (id < 300) = has_kind Plane id is in omega (arith, range.1))
 conn_kind Conn id prop crtc is from h = (refl, eqb-true prop CRTC_ID h)
-conn_kind Enc id prop crtc is from h = absurd (false≢true h)
+conn_kind other id prop crtc is from h = absurd (false≢true h)
 
 -- a set of CRTC_ID is one of a plane or of a connector
-pub plane_move : (d : Duplicates) (s : Set) (crtc : ℕ) → s.object.0 < 300 → MaySet d s (to.Crtc crtc)
+pub plane_move : {d : Duplicates} {s : Set} {crtc : ℕ} → MaySet d s (to.Crtc crtc) → s.object.0 < 300
     → (is_some (state_of Plane d.planes s.object.0) ≡ true) × (s.prop ≡ CRTC_ID)
-plane_move d s crtc below may =
-    let kind : (kind_of s.object.0 ≡ Plane) × (s.prop ≡ CRTC_ID) = plane_kind (kind_of s.object.0) s.object.0 s.prop crtc refl below
-    may.takes in
-    (there d s.object.0 Plane kind.0 may.there, kind.1)
+plane_move {s = s} {crtc} may below =
+    of_kind Plane CRTC_ID may (plane_kind (kind_of s.object.0) s.object.0 s.prop crtc refl below may.takes)
 
-pub conn_move : (d : Duplicates) (s : Set) (crtc : ℕ) → 300 ≤ s.object.0 → MaySet d s (to.Crtc crtc)
+pub conn_move : {d : Duplicates} {s : Set} {crtc : ℕ} → MaySet d s (to.Crtc crtc) → 300 ≤ s.object.0
     → (is_some (state_of Conn d.conns s.object.0) ≡ true) × (s.prop ≡ CRTC_ID)
-conn_move d s crtc from may =
-    let kind : (kind_of s.object.0 ≡ Conn) × (s.prop ≡ CRTC_ID) = conn_kind (kind_of s.object.0) s.object.0 s.prop crtc refl from may.takes
-    in
-    (there d s.object.0 Conn kind.0 may.there, kind.1)
+conn_move {s = s} {crtc} may from =
+    of_kind Conn CRTC_ID may (conn_kind (kind_of s.object.0) s.object.0 s.prop crtc refl from may.takes)
 
 fence_kind : (kind : Kind) (prop : ℕ) → takes kind prop to.Fence ≡ true → is_kept prop ≡ false
 fence_kind Crtc prop h = not-true (is_kept prop) h
@@ -508,8 +467,8 @@ fence_kind Conn prop h = not-true (is_kept prop) h
 fence_kind Enc prop h = not-true (is_kept prop) h
 
 -- a set of a fence is of no property that is kept
-pub fence_set : (d : Duplicates) (s : Set) → MaySet d s to.Fence → s.value ≡ to.Fence → IsSet d s d
-fence_set d s may is = record {
+pub fence_set : {d : Duplicates} {s : Set} → MaySet d s to.Fence → s.value ≡ to.Fence → IsSet d s d
+fence_set {d} {s} may is = record {
   states = ap (after_value d s.object.0 s.prop) (sym is);
   new = sets_nothing d s (fence_kind (kind_of s.object.0) s.prop may.takes);
   old = refl;

@@ -73,10 +73,6 @@ pub labelled_by_id : (label id : ℕ) (ts : List Thing) → AreNumbered 1000 ts 
     → thing_with_id ts id ≡ thing_labelled ts label
 labelled_by_id label id ts h e = by_id label id ts (thing_labelled ts label) h refl e
 
-mapped_none : (o : Option Thing) → None ≡ option_map (λ t. t.id) o → o ≡ None
-mapped_none None e = refl
-mapped_none (Some t) e = absurd cc
-
 labelled_more : (label : ℕ) (ts : List Thing) (t : Thing)
     → thing_labelled (ts ++ t ∷ []) label ≡ or_else (thing_labelled ts label) (cond (eqb t.label label) (Some t) None)
 labelled_more label [] t = refl

@@ -153,12 +153,3 @@ pub referred_given : (things : List Thing) (next : ℕ) (fbs new : List (Slot Fr
     → open_fbs new ≡ open_fbs fbs → AreReferred things next fbs → AreReferred things next new
 referred_given things next fbs new id is same referred =
     record { below = rw is (below_give next id fbs (value_with_id fbs id) referred.below); same = referred.same ∙ sym same }
-
--- a blob that may be destroyed is one
-blob_if : (client : ℕ) (t : Thing) (b : Bool) → (is_blob t.content && t.is_open) ≡ b → destroy_refusal client (Some t) ≡ None
-    → is_blob t.content ≡ true
-blob_if client t true is none = left (is_blob t.content) t.is_open is where
-  left : (x y : Bool) → (x && y) ≡ true → x ≡ true
-  left true y e = refl
-  left false y e = absurd cc
-blob_if client t false is none = absurd (let e : Some 33 ≡ None = rw is at none in cc)

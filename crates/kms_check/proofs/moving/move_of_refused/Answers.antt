@@ -23,7 +23,7 @@ returns-in-Of c = λ t r used resolved asks is_refused.
       resolved = resolved;
       asks = asks;
       gives = λ w is. sym (is_refused.refusal w is (none w is)) ∙ ap (λ e. refusal_of (Err e)) c.in-Of.is;
-      covers = λ w is. all-duplicated t w r d is.device (room (goal.at.returns-in-Of c).After-have_places) (none w is);
+      covers = λ w is. all-duplicated w r is.device (room (goal.at.returns-in-Of c).After-have_places) (none w is);
     })
 
 pub returns-in-None : goal.returns-in-None
@@ -36,5 +36,5 @@ returns-in-None c = λ t r used resolved asks is_refused.
     record {
       resolved = resolved;
       asks = asks;
-      least = λ w is. asks-some t w r d locks (room (goal.at.returns-in-None c).After-have_places) (more w is) nothing;
+      least = λ w is. asks-some t w r (room (goal.at.returns-in-None c).After-have_places) (more w is) nothing;
     }

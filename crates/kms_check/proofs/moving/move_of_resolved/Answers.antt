@@ -18,7 +18,7 @@ returns-in_ok-boxed-in-Ok c = λ r used asks.
       gives = λ w is. c.in-Ok.ensures.checked w r is;
       passes = λ w is. sym (c.in-Ok.ensures.refusal w r is (sym (c.in-Ok.ensures.locks w r is)));
       covers = λ w is.
-          all-duplicated t w r d is.device (room (goal.at.returns-in_ok-boxed-in-Ok c).After-have_places)
+          all-duplicated w r is.device (room (goal.at.returns-in_ok-boxed-in-Ok c).After-have_places)
           (sym (c.in-Ok.ensures.locks w r is));
       kept = c.in-Ok.ensures.kept;
     })

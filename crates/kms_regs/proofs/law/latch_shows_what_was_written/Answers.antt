@@ -8,7 +8,7 @@ returns-clause-shows c = shows
 
 pub returns-clause-written : goal.returns-clause-written
 returns-clause-written c =
-    λ t shadow live crtc conn s state written. shows t shadow live crtc ∙ decoded_written t shadow crtc conn s state written
+    λ t shadow live crtc conn s state written. shows t shadow live crtc ∙ decoded_written written
 
 pub returns-clause-others : goal.returns-clause-others
 returns-clause-others c = leaves

@@ -7,10 +7,10 @@ loop-i-init c = record { long = refl; below = λ p low. absurd (omega (arith, lo
 
 pub loop-i-preserved : goal.loop-i-preserved
 loop-i-preserved c =
-    written_next c.args.words.now c.args.old.now c.args.new.now c.loop-i.words c.loop-i.i _ c.loop-i.invariant
+    written_next c.loop-i.invariant
     (omega (arith, c.loop-i.invariant.long)) c.write.ensures
 
 pub returns : goal.returns
 returns c =
-    written_all c.args.words.now c.args.old.now c.args.new.now c.loop-i.words c.loop-i.i c.loop-i.invariant (omega arith)
+    written_all c.loop-i.invariant (omega arith)
     (sym c.requires.old) (sym c.requires.new)

@@ -8,10 +8,10 @@ use Rattle.kms_request.proofs.fences.note_in_fence.Goals as goal
 
 pub returns-then-sets_of : goal.returns-then-sets_of
 returns-then-sets_of g c = λ earlier tell. rw c.fence_of.ensures
-    (tell_noted Plane IN_FENCE_FD (option_and_then (fence_value (g.L.Looker.meaning c.args.found.now))) earlier c.args.a.now
+    (tell_noted Plane IN_FENCE_FD (option_and_then (fence_value (g.L.Looker.meaning c.args.found.now))) earlier
     c.args.fences.now c.requires c.told-fences (sym c.sets_of.ensures ∙ c.if-sets_of.true) tell)
 
 pub returns-else-sets_of : goal.returns-else-sets_of
 returns-else-sets_of g c = λ earlier tell. tell_passed Plane IN_FENCE_FD
-    (option_and_then (fence_value (g.L.Looker.meaning c.args.found.now))) earlier c.args.a.now c.args.fences.now c.requires
+    (option_and_then (fence_value (g.L.Looker.meaning c.args.found.now))) earlier c.args.fences.now c.requires
     (sym c.sets_of.ensures ∙ c.if-sets_of.false) tell

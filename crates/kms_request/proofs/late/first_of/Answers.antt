@@ -30,5 +30,5 @@ loop-index-preserved c =
     let within : c.loop-index.index < count_of_step c.args.topology.now c.args.step = rw c.count_of_step-index-end.ensures at
     c.loop-index-test.true in
     first_from-more (refusal_at c.args.topology.now c.args.states.now c.args.objects.now c.args.asked c.args.step) c.loop-index.index
-    (count_of_step c.args.topology.now c.args.step) _ within (sym c.refusal_at.ensures ∙ ap refusal_number c.in_default.is)
+    (count_of_step c.args.topology.now c.args.step) within (sym c.refusal_at.ensures ∙ ap refusal_number c.in_default.is)
     c.loop-index.invariant

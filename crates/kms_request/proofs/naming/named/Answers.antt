@@ -9,5 +9,5 @@ pub returns : goal.returns
 returns c = λ t w f r covers.
     let Named : List Set → Type 0 = λ sets. AreCrtcs (λ crtc. list_any (λ s. set_names c.args.states.now s crtc) sets) c.all_named_by.result
     in
-    named_is t w f r c.args.resolved.now c.args.states.now c.all_named_by.result covers
+    named_is covers
     (subst Named c.as_slice.ensures.value c.all_named_by.ensures)

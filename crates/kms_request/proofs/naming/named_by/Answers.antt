@@ -6,10 +6,9 @@ use Rattle.kms_request.proofs.naming.named_by.Goals as goal
 pub returns : goal.returns
 returns c =
     let object = c.args.set.now.object.0 in
-    let old = crtc_as (old_crtc_id c.args.states.now object) c.crtcs_of-old.result.0 c.only_crtc-2.result c.crtcs_of-old.ensures.old
+    let old = crtc_as (old_crtc_id c.args.states.now object) c.crtcs_of-old.result.0 c.crtcs_of-old.ensures.old
     c.only_crtc-2.ensures in
-    let new = crtc_as (new_crtc_id c.args.set.now.value) c.new_crtc_id.result c.only_crtc-3.result c.new_crtc_id.ensures
+    let new = crtc_as (new_crtc_id c.args.set.now.value) c.new_crtc_id.result c.new_crtc_id.ensures
     c.only_crtc-3.ensures in
-    both_crtcs (λ crtc. (object == crtc) || (old_crtc_id c.args.states.now object == crtc))
-    (λ crtc. new_crtc_id c.args.set.now.value == crtc) _ _
-    (both_crtcs (λ crtc. object == crtc) (λ crtc. old_crtc_id c.args.states.now object == crtc) _ _ c.only_crtc.ensures old) new
+    both_crtcs
+    (both_crtcs c.only_crtc.ensures old) new

@@ -1,4 +1,4 @@
-use Rattle.std.proofs.Common.{◌≡◌, ◌∙◌, ◌<◌, ◌≤◌, List, true, false, length, take, get_or, sym, ap, subst, arith}
+use Rattle.std.proofs.Common.{◌≡◌, ◌∙◌, ◌<◌, ◌≤◌, List, true, false, length, get_or, sym, ap, subst, arith}
 use Rattle.std.proofs.lemmas.List.{take_all}
 use Rattle.kms_model.specs.declared.scripts.Assign.{Assign}
 use Rattle.kms_model.specs.declared.worlds.Setting.{Setting}
@@ -12,7 +12,7 @@ use Rattle.kms_request.proofs.reaching.changed.Goals as goal
 
 pub set_of-requires : goal.set_of-requires
 set_of-requires g c =
-    counted-settable c.args.topology.now (g.L.Looker.meaning c.args.found.now)
+    counted-settable (g.L.Looker.meaning c.args.found.now)
     (get_or c.as_slice-a-items.result.now c.loop-a.a-index nothing) c.requires.present.device
     (sym c.picks.ensures ∙ c.if-not-picks.false)
 
@@ -25,7 +25,7 @@ set-requires g c =
     let counts = sym c.picks.ensures ∙ c.if-not-picks.false in
     record {
       device = device;
-      all = all_after t c.args.states.now c.loop-a.after c.loop-a.invariant.same c.requires.present.all;
+      all = all_after c.loop-a.invariant.same c.requires.present.all;
       object = set-there t f a c.set_of.result device counts c.set_of.ensures.set;
       value = set-may t f a c.set_of.result device counts c.set_of.ensures.set
           (c.set_of.ensures.among t (counted-allowed t f a counts));
@@ -38,7 +38,7 @@ loop-a-preserved-then-not-picks g c =
     let i = c.loop-a.a-index in
     let assigns = c.args.request.now.assigns in
     let within : i < length assigns = omega (arith, c.loop-a-test.true, c.as_slice-a-items.ensures.len) in
-    let out = at_hand t f assigns c.as_slice-a-items.result.now i c.picks.result false c.as_slice-a-items.ensures.value c.picks.ensures
+    let out = at_hand t f i c.as_slice-a-items.ensures.value c.picks.ensures
     c.if-not-picks.true in
     record {
       same = c.loop-a.invariant.same;
@@ -56,18 +56,17 @@ loop-a-preserved g c =
     let assigns = c.args.request.now.assigns in
     let a = get_or assigns i nothing in
     let within : i < length assigns = omega (arith, c.loop-a-test.true, c.as_slice-a-items.ensures.len) in
-    let counts = at_hand t f assigns c.as_slice-a-items.result.now i c.picks.result true c.as_slice-a-items.ensures.value c.picks.ensures
+    let counts = at_hand t f i c.as_slice-a-items.ensures.value c.picks.ensures
     c.if-not-picks.false in
     let is : c.set_of.result ≡ set_of f a = c.set_of.ensures.set ∙ ap (λ (xs : List Assign). set_of f (get_or xs i nothing))
     c.as_slice-a-items.ensures.value in
     record {
-      same = same_then c.args.states.now c.loop-a.after c.set.new.states c.loop-a.invariant.same c.set.ensures.same;
+      same = same_then c.loop-a.invariant.same c.set.ensures.same;
       old = λ things values before. c.set.ensures.old things values (c.loop-a.invariant.old things values before);
       new = λ w present tells.
           subst (λ (values : List Setting). AgreesNew t w.things values c.set.new.states)
           (sym (apply_counted t f w.things w.values assigns i nothing within counts))
-          (set-agrees t f a c.set_of.result present.device counts is w (apply w.things w.values (allowed_by t f (take i assigns)))
-          c.loop-a.after c.set.new.states tells present.numbered.things c.set.ensures
+          (set-agrees t f a c.set_of.result present.device counts is w tells present.numbered.things c.set.ensures
           (c.loop-a.invariant.new w present tells));
     }
 
@@ -81,6 +80,6 @@ returns-clause-new g c = λ w present tells.
 
 pub returns-clause-between : goal.returns-clause-between
 returns-clause-between g c = λ w present tells early.
-    stands-between c.args.topology.now w (g.L.Looker.meaning c.args.found.now) c.args.request.now c.args.states.now c.loop-a.after present
+    stands-between (g.L.Looker.meaning c.args.found.now) c.args.request.now present
     tells early
     (c.loop-a.invariant.old w.things w.values) c.loop-a.invariant.same (returns-clause-new g c w present tells)

@@ -6,12 +6,12 @@ use Rattle.kms_request.proofs.reaching.reach.Goals as goal
 pub changed-after-requires : goal.changed-after-requires
 changed-after-requires g c = record {
   world = all_open c.requires.world;
-  present = present-open c.args.topology.now c.requires.world c.args.states.now c.requires.present;
+  present = present-open c.requires.present;
   tells = tells-open c.requires.world (g.L.Looker.meaning c.args.found.now) c.requires.tells;
 }
 
 pub spans_of_picked-requires : goal.spans_of_picked-requires
-spans_of_picked-requires g c = λ k d less counts. counted-settable c.args.topology.now (g.L.Looker.meaning c.args.found.now) _
+spans_of_picked-requires g c = λ k d less counts. counted-settable (g.L.Looker.meaning c.args.found.now) _
     c.requires.present.device counts
 
 pub returns-clause-reached : goal.returns-clause-reached
@@ -20,7 +20,7 @@ returns-clause-reached g c = λ w present tells.
     let f = g.L.Looker.meaning c.args.found.now in
     reached-is t w f c.args.request.now c.args.states.now c.changed-after.result present tells c.changed-after.ensures.old
     c.changed-after.ensures.same
-    (c.changed-after.ensures.new (all_open w) (present-open t w c.args.states.now present) (tells-open w f tells)) c.as_slice.result.now
+    (c.changed-after.ensures.new (all_open w) (present-open present) (tells-open w f tells)) c.as_slice.result.now
     c.spans_of_picked.result.0 c.spans_of_picked.result.1 c.as_slice.ensures.value
     c.spans_of_picked.ensures.named c.spans_of_picked.ensures.touched
 

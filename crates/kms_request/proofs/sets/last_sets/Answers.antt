@@ -5,7 +5,7 @@ use Rattle.kms_request.proofs.sets.last_sets.Goals as goal
 pub loop-left-init : goal.loop-left-init
 loop-left-init g c = record {
   within = omega arith;
-  sets = sets_at_end (g.L.Looker.meaning c.args.found.now) c.args.assigns.now c.in_ok-sets.sets.items c.in_ok-sets.ensures.items;
+  sets = sets_at_end (g.L.Looker.meaning c.args.found.now) c.args.assigns.now c.in_ok-sets.ensures.items;
   marks = marks_at_end c.args.assigns.now c.no_marks-marks.result c.no_marks-marks.ensures;
 }
 

@@ -14,7 +14,7 @@ pub returns-clause-named : goal.returns-clause-named
 returns-clause-named c = λ t w stand.
     let Named : List Assign → Type 0 = λ xs. AreCrtcs (λ crtc. list_any (λ a. is_named_between c.args.states.now a crtc) xs)
     c.spans_of_picked.result.0 in
-    named_between-is t w c.args.request.now c.args.states.now c.spans_of_picked.result.0 stand
+    named_between-is stand
     (subst Named (filter_every c.as_slice.result.now ∙ c.as_slice.ensures.value) c.spans_of_picked.ensures.named)
 
 pub returns-clause-touched : goal.returns-clause-touched
@@ -23,5 +23,5 @@ returns-clause-touched c = λ t w stand.
     let named = c.spans_of_picked.result.0 in
     let Touched : List Assign → Type 0 = λ xs. c.spans_of_picked.result.1
     ≡ union (union (objects_assigned xs) (record { crtcs = named; planes = 0; conns = 0 })) (affected_below d.crtcs named 4) in
-    spans-touched t w c.args.request.now d named c.spans_of_picked.result.1 stand (returns-clause-named c t w stand)
+    spans-touched stand (returns-clause-named c t w stand)
     (subst Touched (filter_every c.as_slice.result.now ∙ c.as_slice.ensures.value) c.spans_of_picked.ensures.touched)

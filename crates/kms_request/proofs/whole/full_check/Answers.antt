@@ -23,7 +23,7 @@ all_named_between-requires c =
     (settable_between c.args.topology.now c.requires.world c.args.request.now c.args.states.now c.requires.between)
 
 pub late_refusal-requires : goal.late_refusal-requires
-late_refusal-requires c = planes_in_range c.args.topology.now c.requires.world c.args.request.now c.args.states.now 4294967295
+late_refusal-requires c = planes_in_range 4294967295
     c.requires.between
 
 pub returns : goal.returns
@@ -33,10 +33,10 @@ returns c = λ w stand.
     let d = c.args.states.now in
     let Named : List Assign → Type 0 = λ xs. AreCrtcs (λ crtc. list_any (λ a. is_named_between d a crtc) xs) c.all_named_between.result in
     let Fenced : List Assign → Type 0 = λ xs. TellOutFences xs c.out_fence_numbers-fences.result in
-    let named = named_between-is t w r d c.all_named_between.result stand
+    let named = named_between-is stand
     (subst Named c.as_slice-assigns.ensures.value c.all_named_between.ensures) in
     let few = has_few t (limits_of t stand.device) in
     let fenced = c.with_number.ensures ∙ fenced_is t r c.out_fence_numbers-fences.result few.crtcs
     (subst Fenced c.as_slice-assigns.ensures.value c.out_fence_numbers-fences.ensures) in
-    (rw c.of_request.ensures at c.late_refusal.ensures) ∙ whole_is t w r d c.all_named_between.result c.with_number.result stand named
+    (rw c.of_request.ensures at c.late_refusal.ensures) ∙ whole_is stand named
     fenced

@@ -8,10 +8,10 @@ pub returns : goal.returns
 returns c =
     let object = object_of c.args.a.now in
     let states = c.args.states.now in
-    let itself = crtc_as object c.object_of-object.result c.only_crtc.result c.object_of-object.ensures c.only_crtc.ensures in
-    let old = crtc_as (old_crtc_id states object) c.crtcs_of-old.result.0 c.only_crtc-2.result
+    let itself = crtc_as object c.object_of-object.result c.object_of-object.ensures c.only_crtc.ensures in
+    let old = crtc_as (old_crtc_id states object) c.crtcs_of-old.result.0
     (rw (← c.object_of-object.ensures) c.crtcs_of-old.ensures.old) c.only_crtc-2.ensures in
-    let new = crtc_as (next_crtc states object) c.crtcs_of-old.result.1 c.only_crtc-3.result
+    let new = crtc_as (next_crtc states object) c.crtcs_of-old.result.1
     (rw (← c.object_of-object.ensures) c.crtcs_of-old.ensures.new) c.only_crtc-3.ensures in
-    both_crtcs (λ crtc. (object == crtc) || (old_crtc_id states object == crtc)) (λ crtc. next_crtc states object == crtc) _ _
-    (both_crtcs (λ crtc. object == crtc) (λ crtc. old_crtc_id states object == crtc) _ _ itself old) new
+    both_crtcs
+    (both_crtcs itself old) new

@@ -16,5 +16,5 @@ pub returns : goal.returns
 returns c = λ t w stand.
     let Named : List Assign → Type 0 = λ xs. AreCrtcs (λ crtc. list_any (λ a. is_named_between c.args.states.now a crtc) xs)
     c.all_named_between.result in
-    named_between-is t w c.args.request.now c.args.states.now c.all_named_between.result stand
+    named_between-is stand
     (subst Named c.as_slice.ensures.value c.all_named_between.ensures)

@@ -7,11 +7,11 @@ use Rattle.kms_serial.proofs.requests.check.Goals as goal
 
 -- the states after the request
 between : (c : After-changed-after) → StandBetween c.args.topology.now c.args.store.now c.args.request.now c.changed-after.result
-between c = c.changed-after.ensures.between c.args.store.now (present c.args.topology.now c.args.store.now c.args.states.now c.requires)
+between c = c.changed-after.ensures.between c.args.store.now (present c.requires)
     (λ label. refl) (sym c.in_default.ensures.first)
 
 pub changed-after-requires : goal.changed-after-requires
-changed-after-requires c = present_there c.args.topology.now c.args.store.now c.args.states.now c.requires
+changed-after-requires c = present_there c.requires
 
 pub full_check-requires : goal.full_check-requires
 full_check-requires c = record { world = c.args.store.now; between = between ((goal.at.full_check-requires c).After-changed-after) }

@@ -15,5 +15,5 @@ returns-in-Some c =
     let enter : Duplicates → Duplicates = λ d. record d { crtcs = changed Crtc d.crtcs c.args.crtc (with_routed Conn index true) } in
     subst (IsSet before (set_to c.args.id CRTC_ID (to.Crtc c.args.crtc)))
     (sym (c.put_routed-in-Some.ensures ∙ ap enter c.put_routed.ensures))
-    (moves_conn before c.args.id c.args.crtc c.in-Some.both (is_at Conn before.conns c.args.id c.in-Some.both c.requires c.in-Some.ensures)
+    (moves_conn before c.args.id c.args.crtc c.in-Some.both (is_at c.requires c.in-Some.ensures)
     (omega arith) (omega arith) (omega arith))

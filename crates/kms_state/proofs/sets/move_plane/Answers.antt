@@ -16,4 +16,4 @@ returns-in-Some c =
     subst (IsSet before (set_to c.args.id CRTC_ID (to.Crtc c.args.crtc)))
     (sym (c.put_routed-in-Some.ensures ∙ ap enter c.put_routed.ensures))
     (moves_plane before c.args.id c.args.crtc c.in-Some.both
-    (is_at Plane before.planes c.args.id c.in-Some.both c.requires c.in-Some.ensures) (omega arith) (omega arith))
+    (is_at c.requires c.in-Some.ensures) (omega arith) (omega arith))

@@ -7,8 +7,8 @@ loop-index-init c = record { long = search rules; first = λ i below. absurd (om
 
 pub loop-index-preserved : goal.loop-index-preserved
 loop-index-preserved c =
-    first_next c.loop-index.planes c.loop-index.index c.first.result c.loop-index.invariant c.loop-index-test.true c.first.ensures
+    first_next c.loop-index.invariant c.loop-index-test.true c.first.ensures
 
 pub returns : goal.returns
 returns c =
-    first_all c.loop-index.planes c.loop-index.index c.first-2.result c.loop-index.invariant c.loop-index-test.false c.first-2.ensures
+    first_all c.loop-index.invariant c.loop-index-test.false c.first-2.ensures

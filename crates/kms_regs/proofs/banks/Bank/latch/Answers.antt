@@ -9,12 +9,12 @@ loop-plane-init c = none_latched c.args.shadow.now c.args.self.now _
 
 pub loop-plane-preserved : goal.loop-plane-preserved
 loop-plane-preserved c =
-    latched_next c.args.shadow.now c.args.self.now c.loop-plane.self _ _ c.loop-plane.plane c.loop-plane.invariant c.latch_plane.ensures
+    latched_next c.loop-plane.invariant c.latch_plane.ensures
 
 pub returns : goal.returns
 returns c = λ t of_device.
     (let latched : IsLatched c.args.shadow.now c.args.self.now c.loop-plane.self (object_id Crtc c.args.index) c.loop-plane.plane =
     subst (λ (id : ℕ). IsLatched c.args.shadow.now c.args.self.now c.loop-plane.self id c.loop-plane.plane) c.of-crtc.ensures
     c.loop-plane.invariant in
-    latched_all t c.args.shadow.now c.args.self.now c.loop-plane.self c.self.inside.planes c.self.inside.crtcs c.loop-plane.plane
-    c.args.index _ latched (omega (arith, of_device)) c.self.view_is (search rules) c.crtc.ensures)
+    latched_all t c.self.inside.planes c.self.inside.crtcs
+    c.args.index latched (omega (arith, of_device)) c.self.view_is (search rules) c.crtc.ensures)

@@ -6,6 +6,6 @@ use Rattle.kms_regs.proofs.banks.Bank.write_crtc.Goals as goal
 
 pub returns : goal.returns
 returns c =
-    crtc_set c.self.inside.planes c.self.inside.crtcs c.args.self.now c.args.index _ _ c.self.view_is (search rules)
+    crtc_set c.self.inside.planes c.self.inside.crtcs c.args.index c.self.view_is (search rules)
     (c.write.ensures ∙ ap (λ (w : CrtcWords). rewritten_crtc w c.args.old.now c.args.new.now)
-    (crtc_of_bank c.self.inside.planes c.self.inside.crtcs c.args.self.now c.args.index _ c.self.view_is (search rules)))
+    (crtc_of_bank c.self.inside.planes c.self.inside.crtcs c.args.index _ c.self.view_is (search rules)))

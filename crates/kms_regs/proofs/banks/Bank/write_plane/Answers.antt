@@ -6,6 +6,6 @@ use Rattle.kms_regs.proofs.banks.Bank.write_plane.Goals as goal
 
 pub returns : goal.returns
 returns c =
-    plane_set c.self.inside.planes c.self.inside.crtcs c.args.self.now c.args.index _ _ c.self.view_is (search rules)
+    plane_set c.self.inside.planes c.self.inside.crtcs c.args.index c.self.view_is (search rules)
     (c.write.ensures ∙ ap (λ (w : PlaneWords). rewritten_plane w c.args.old.now c.args.new.now)
-    (plane_of_bank c.self.inside.planes c.self.inside.crtcs c.args.self.now c.args.index _ c.self.view_is (search rules)))
+    (plane_of_bank c.self.inside.planes c.self.inside.crtcs c.args.index _ c.self.view_is (search rules)))

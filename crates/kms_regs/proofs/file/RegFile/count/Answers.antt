@@ -4,8 +4,8 @@ use Rattle.kms_regs.proofs.file.RegFile.count.Goals as goal
 
 pub returns-clause-own : goal.returns-clause-own
 returns-clause-own c = own_count c.self.inside.planes c.self.inside.shadow c.self.inside.live c.self.inside.go c.self.inside.counts
-    c.args.self.now c.args.crtc c.self.view_is
+    c.args.crtc c.self.view_is
 
 pub returns-clause-device : goal.returns-clause-device
 returns-clause-device c = λ t d stands. own_count c.self.inside.planes c.self.inside.shadow c.self.inside.live c.self.inside.go
-    c.self.inside.counts c.args.self.now c.args.crtc c.self.view_is ∙ sym (stands.counted c.args.crtc)
+    c.self.inside.counts c.args.crtc c.self.view_is ∙ sym (stands.counted c.args.crtc)

@@ -6,6 +6,6 @@ use Rattle.kms_regs.proofs.file.RegFile.shows.Goals as goal
 
 pub returns : goal.returns
 returns c = λ t d stands.
-    (let held = opened t d _ c.args.self.now c.self.view_is stands in
+    (let held = opened t d c.self.view_is stands in
     c.is_shown.ensures t held.planes ∙ sym (ap (picture_names c.args.fb)
     (same_decoded t d.live c.self.inside.live c.args.crtc held.live_words)))

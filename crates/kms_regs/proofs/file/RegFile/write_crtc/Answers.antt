@@ -10,8 +10,8 @@ pub returns-clause-rewrites : goal.returns-clause-rewrites
 returns-clause-rewrites c = λ t d stands.
     (let there = ap (λ (w : CrtcWords). w.conn) (c.behind-self.view_is ∙ c.crtc.ensures) ∙ ap
     (λ (f : RegisterFile). (crtc_register f.shadow (object_id Crtc c.args.index)).conn) c.self.view_is in
-    rewrote_crtc t d c.self.inside.planes c.self.inside.shadow c.self.inside.live c.self.inside.go c.self.inside.counts c.args.index _ _ _ _
-    c.write_crtc.new.self (opened t d _ c.args.self.now c.self.view_is stands)
+    rewrote_crtc t d c.self.inside.planes c.self.inside.shadow c.self.inside.live c.self.inside.go c.self.inside.counts c.args.index (opened
+    t d c.self.view_is stands)
     (c.of-old.ensures ∙ ap (λ n. crtc_words n c.args.old.now) there) c.of.ensures c.write_crtc.ensures)
 
 pub returns-clause-writes : goal.returns-clause-writes

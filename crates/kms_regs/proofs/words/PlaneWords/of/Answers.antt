@@ -15,20 +15,20 @@ returns c =
       c.fb_words-fb.ensures.width,
       c.fb_words-fb.ensures.height,
       c.fb_words-fb.ensures.format,
-      passed (cast_unsigned w32) s.dst.x c.signed_word.result c.requires.x.low (omega (arith, ints, c.requires.x.high))
+      passed (cast_unsigned w32) s.dst.x c.requires.x.low (omega (arith, ints, c.requires.x.high))
           c.signed_word.ensures,
-      passed (cast_unsigned w32) s.dst.y c.signed_word-2.result c.requires.y.low (omega (arith, ints, c.requires.y.high))
+      passed (cast_unsigned w32) s.dst.y c.requires.y.low (omega (arith, ints, c.requires.y.high))
           c.signed_word-2.ensures,
-      passed natural s.dst.w c.natural_word.result (omega (arith, ints, c.requires.w.low)) (omega (arith, ints, c.requires.w.high))
+      passed natural s.dst.w (omega (arith, ints, c.requires.w.low)) (omega (arith, ints, c.requires.w.high))
           c.natural_word.ensures,
-      passed natural s.dst.h c.natural_word-2.result (omega (arith, ints, c.requires.h.low)) (omega (arith, ints, c.requires.h.high))
+      passed natural s.dst.h (omega (arith, ints, c.requires.h.low)) (omega (arith, ints, c.requires.h.high))
           c.natural_word-2.ensures,
-      passed natural s.src.x c.natural_word-3.result (omega (arith, ints, c.requires.src_x.low)) c.requires.src_x.high
+      passed natural s.src.x (omega (arith, ints, c.requires.src_x.low)) c.requires.src_x.high
           c.natural_word-3.ensures,
-      passed natural s.src.y c.natural_word-4.result (omega (arith, ints, c.requires.src_y.low)) c.requires.src_y.high
+      passed natural s.src.y (omega (arith, ints, c.requires.src_y.low)) c.requires.src_y.high
           c.natural_word-4.ensures,
-      passed natural s.src.w c.natural_word-5.result (omega (arith, ints, c.requires.src_w.low)) c.requires.src_w.high
+      passed natural s.src.w (omega (arith, ints, c.requires.src_w.low)) c.requires.src_w.high
           c.natural_word-5.ensures,
-      passed natural s.src.h c.natural_word-6.result (omega (arith, ints, c.requires.src_h.low)) c.requires.src_h.high
+      passed natural s.src.h (omega (arith, ints, c.requires.src_h.low)) c.requires.src_h.high
           c.natural_word-6.ensures,
     ) refl

@@ -18,5 +18,5 @@ returns-then-self-ne0 c = shows_some _ c.args.crtc c.args.fb c.if-self-crtc.fals
 
 pub returns-else-self-ne0 : goal.returns-else-self-ne0
 returns-else-self-ne0 c =
-    ap not (same_id c.self.inside.fb 0 c.if-self-ne0.false) ∙ shows_none _ c.args.crtc c.args.fb c.if-self-crtc.false c.if-self-ne0.false
+    ap not (same_id c.if-self-ne0.false) ∙ shows_none _ c.args.crtc c.args.fb c.if-self-crtc.false c.if-self-ne0.false
     ∙ ap (λ (w : PlaneWords). is_fb c.args.fb (seen_on c.args.crtc (plane_in w))) c.self.view_is

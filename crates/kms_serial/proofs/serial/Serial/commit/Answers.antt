@@ -15,7 +15,7 @@ returns-then-is_test-clause-executed c = rw (← c.self.view_is)
 pub invariant_of-self-2 : goal.invariant_of-self-2
 invariant_of-self-2 c =
     rw (c.in_ok-commit.ensures.world, c.swap-self-inside.ensures.states)
-    (stands_committed c.self.inside.topology c.self.inside.store c.self.inside.states c.in-Ok.after c.args.client c.args.request.now
+    (stands_committed c.args.client
     c.self.invariant c.in-Ok.ensures.accepted (sym c.is_test.ensures ∙ c.if-is_test.false) c.in-Ok.ensures.after)
 
 pub returns-clause-executed : goal.returns-clause-executed
@@ -26,7 +26,7 @@ returns-clause-executed c =
 
 pub returns-clause-named : goal.returns-clause-named
 returns-clause-named c =
-    let values = values_committed c.self.inside.topology c.self.inside.store c.args.client c.args.request.now c.self.invariant.lawful
+    let values = values_committed c.args.client c.args.request.now c.self.invariant.lawful
     c.in-Ok.ensures.accepted in
     rw (← c.self.view_is, c.in_ok-commit.ensures.world, values)
     (c.named_in.ensures c.self.inside.topology c.self.inside.store c.in-Ok.ensures.between)
@@ -34,5 +34,5 @@ returns-clause-named c =
 pub returns-clause-grows : goal.returns-clause-grows
 returns-clause-grows c =
     rw (← c.self.view_is, c.in_ok-commit.ensures.world)
-    (grows_committed c.self.inside.topology c.self.inside.store c.args.client c.args.request.now c.self.invariant.lawful
+    (grows_committed c.args.client c.args.request.now c.self.invariant.lawful
     (few_objects c.self.inside.topology c.self.invariant.device).crtcs c.in-Ok.ensures.accepted)

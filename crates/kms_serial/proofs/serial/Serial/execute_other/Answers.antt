@@ -7,5 +7,5 @@ invariant_of-self c = stands_after c.self.inside.topology c.self.inside.store c.
 
 pub returns-clause-grows : goal.returns-clause-grows
 returns-clause-grows c = rw (← c.self.view_is)
-    (grows_after c.self.inside.topology c.self.inside.store c.execute.new.self c.args.client c.args.command.now c.execute.result
+    (grows_after c.execute.new.self c.args.client c.args.command.now c.execute.result
     c.requires.other c.self.invariant.lawful c.execute.ensures.executed)

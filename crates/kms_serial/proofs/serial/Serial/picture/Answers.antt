@@ -11,7 +11,7 @@ use Rattle.kms_serial.proofs.serial.Serial.picture.Goals as goal
 
 pub picture-requires : goal.picture-requires
 picture-requires c =
-    may_picture-stands c.self.inside.topology c.self.inside.store c.self.inside.states c.args.crtc c.self.invariant
+    may_picture-stands c.args.crtc c.self.invariant
     (subst (λ (d : Device). c.args.crtc < d.topology.crtcs) (sym c.self.view_is) c.requires)
 
 pub returns-clause-shown : goal.returns-clause-shown

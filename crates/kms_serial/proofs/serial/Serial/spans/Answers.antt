@@ -12,11 +12,11 @@ between : (c : After-changed-after) → StandBetween c.self.inside.topology c.se
 between c =
     let none = subst (λ (d : Device). verdict d.topology d.world c.args.request.now ≡ None) (sym c.self.view_is) c.requires in
     c.changed-after.ensures.between c.self.inside.store
-    (present c.self.inside.topology c.self.inside.store c.self.inside.states c.self.invariant) (λ label. refl)
+    (present c.self.invariant) (λ label. refl)
     (accepted_early c.self.inside.topology c.self.inside.store c.args.request.now none)
 
 pub changed-after-requires : goal.changed-after-requires
-changed-after-requires c = present_there c.self.inside.topology c.self.inside.store c.self.inside.states c.self.invariant
+changed-after-requires c = present_there c.self.invariant
 
 pub spans-requires : goal.spans-requires
 spans-requires c = settable_between c.self.inside.topology c.self.inside.store c.args.request.now c.changed-after.result
